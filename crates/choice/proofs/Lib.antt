@@ -1,0 +1,3 @@
+-- The laws of choices.
+pub mod Picks
+pub mod Rows

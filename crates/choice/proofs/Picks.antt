@@ -1,0 +1,62 @@
+-- What a test that picked a case tells.
+-- Assumes nothing.
+use mathlib.Core.Path.{_≡_, refl, sym, _∙_, subst}
+use mathlib.Core.List.{List, [], _∷_}
+use lib.Dec.{T}
+use mathlib.Core.Bool.{Bool, true, false}
+use Prim.Native.Nat.{ℕ}
+use Rattle.choice.specs.Pick.{pick, both, either, not}
+use Rattle.choice.specs.Rules.{Rule, _⇒_, firstOr}
+
+pub pick-cases : {A : Type 0} (P : A → Type 0) (b : Bool) (x y : A) → (b ≡ true → P x) → (b ≡ false → P y) → P (pick b x y)
+pick-cases P true x y f g = f refl
+pick-cases P false x y f g = g refl
+
+-- what it says that none of the rules is broken
+abbrev pub Kept : List Rule → Type 0
+Kept [] = Unit {0}
+Kept ((broken ⇒ n) ∷ rules) = (broken ≡ false) × Kept rules
+
+-- a fact holds of what the rules give, if it holds of every refusal, and of the rest where no rule is broken
+pub first-cases : {A : Type 0} (P : A → Type 0) (refused : ℕ → A) (x : A) (rules : List Rule) → ((n : ℕ) → P (refused n)) → (Kept rules → P x) → P (firstOr refused x rules)
+first-cases P refused x [] f g = g tt
+first-cases P refused x ((true ⇒ n) ∷ rules) f g = f n
+first-cases P refused x ((false ⇒ n) ∷ rules) f g = first-cases P refused x rules f (λ k. g (refl, k))
+
+-- where no rule is broken, what follows is given
+pub first-kept : {A : Type 0} (refused : ℕ → A) (x : A) (rules : List Rule) → Kept rules → firstOr refused x rules ≡ x
+first-kept refused x [] k = refl
+first-kept refused x ((true ⇒ n) ∷ rules) k = absurd (subst T (k .0) tt)
+first-kept refused x ((false ⇒ n) ∷ rules) k = first-kept refused x rules (k .1)
+
+pub clash : {b : Bool} → b ≡ false → b ≡ true → ⊥
+clash e h = subst T (sym h ∙ e) tt
+
+pub not-true : (b : Bool) → not b ≡ true → b ≡ false
+not-true true e = absurd (subst T (sym e) tt)
+not-true false e = refl
+
+pub not-false : (b : Bool) → not b ≡ false → b ≡ true
+not-false true e = refl
+not-false false e = sym e
+
+pub both-true : (a b : Bool) → both a b ≡ true → (a ≡ true) × (b ≡ true)
+both-true true b e = (refl, e)
+both-true false b e = absurd (subst T (sym e) tt)
+
+pub both-holds : (a b : Bool) → a ≡ true → b ≡ true → both a b ≡ true
+both-holds true b e f = f
+both-holds false b e f = e
+
+-- both fail, and one of them holds
+pub both-second : (a b : Bool) → both a b ≡ false → a ≡ true → b ≡ false
+both-second true b e h = e
+both-second false b e h = absurd (clash refl h)
+
+pub both-first : (a b : Bool) → both a b ≡ false → b ≡ true → a ≡ false
+both-first true b e h = absurd (clash e h)
+both-first false b e h = refl
+
+pub either-false : (a b : Bool) → either a b ≡ false → (a ≡ false) × (b ≡ false)
+either-false true b e = absurd (clash e refl)
+either-false false b e = (refl, e)
