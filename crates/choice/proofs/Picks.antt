@@ -18,16 +18,16 @@ Kept [] = Unit {0}
 Kept ((broken ⇒ n) ∷ rules) = (broken ≡ false) × Kept rules
 
 -- a fact holds of what the rules give, if it holds of every refusal, and of the rest where no rule is broken
-pub first-cases : {A : Type 0} (P : A → Type 0) (refused : ℕ → A) (x : A) (rules : List Rule) → ((n : ℕ) → P (refused n)) → (Kept rules → P x) → P (firstOr refused x rules)
-first-cases P refused x [] f g = g tt
-first-cases P refused x ((true ⇒ n) ∷ rules) f g = f n
-first-cases P refused x ((false ⇒ n) ∷ rules) f g = first-cases P refused x rules f (λ k. g (refl, k))
+pub first-cases : {A : Type 0} (P : A → Type 0) (refused : ℕ → A) (rules : List Rule) (x : A) → ((n : ℕ) → P (refused n)) → (Kept rules → P x) → P (firstOr refused rules x)
+first-cases P refused [] x f g = g tt
+first-cases P refused ((true ⇒ n) ∷ rules) x f g = f n
+first-cases P refused ((false ⇒ n) ∷ rules) x f g = first-cases P refused rules x f (λ k. g (refl, k))
 
 -- where no rule is broken, what follows is given
-pub first-kept : {A : Type 0} (refused : ℕ → A) (x : A) (rules : List Rule) → Kept rules → firstOr refused x rules ≡ x
-first-kept refused x [] k = refl
-first-kept refused x ((true ⇒ n) ∷ rules) k = absurd (subst T (k .0) tt)
-first-kept refused x ((false ⇒ n) ∷ rules) k = first-kept refused x rules (k .1)
+pub first-kept : {A : Type 0} (refused : ℕ → A) (rules : List Rule) (x : A) → Kept rules → firstOr refused rules x ≡ x
+first-kept refused [] x k = refl
+first-kept refused ((true ⇒ n) ∷ rules) x k = absurd (subst T (k .0) tt)
+first-kept refused ((false ⇒ n) ∷ rules) x k = first-kept refused rules x (k .1)
 
 pub clash : {b : Bool} → b ≡ false → b ≡ true → ⊥
 clash e h = subst T (sym h ∙ e) tt

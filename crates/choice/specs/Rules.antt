@@ -9,7 +9,7 @@ infix 30 _⇒_
 pub data Rule : Type 0 where
   _⇒_ : Bool → ℕ → Rule
 
--- what the number of the first broken rule gives, or `kept` where none is broken
-abbrev pub firstOr : {A : Type 0} → (ℕ → A) → A → List Rule → A
-firstOr refused kept [] = kept
-firstOr refused kept ((broken ⇒ n) ∷ rules) = pick broken (refused n) (firstOr refused kept rules)
+-- what the number of the first broken rule gives, or else what is given where none is broken
+abbrev pub firstOr : {A : Type 0} → (ℕ → A) → List Rule → A → A
+firstOr refused [] kept = kept
+firstOr refused ((broken ⇒ n) ∷ rules) kept = pick broken (refused n) (firstOr refused rules kept)

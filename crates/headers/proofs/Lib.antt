@@ -1,0 +1,2 @@
+-- The laws of headers.
+pub mod Within

@@ -1,0 +1,44 @@
+use mathlib.Core.Path.{_≡_, refl, sym, _∙_}
+use Prim.Native.Nat.{ℕ, _-_, _≤_}
+use native.Mathlib.Omega.{arith}
+use borrow.Author.Needs.{needs}
+use lib.ListN.{drop}
+use Rattle.choice.specs.Table.{lookup}
+use Rattle.headers.specs.Table.{forms, formOf}
+use Rattle.choice.proofs.Rows.{look-here, look-on, look-end}
+use Rattle.headers.proofs.table.form_of.Statement.{statement}
+use Rattle.headers.proofs.table.form_of.Tie as tie
+
+abbrev Inv-loop : tie.InvT-loop
+Inv-loop vr i₀ i = (i ≤ 27) × (formOf vr ≡ lookup vr (drop i forms))
+
+abbrev μ-loop : tie.MeasureT-loop
+μ-loop vr i₀ i = 27 - i
+
+loop-holds : tie.Need-loop-holds Inv-loop μ-loop
+unfolding formOf
+loop-holds c = (omega arith, refl)
+
+returns : tie.Need-returns Inv-loop μ-loop
+returns c = sym (c .before .before .before .before .loop .inv .1 ∙ look-here _ forms _ (c .before .before .before .before .loop .i) (search needs) (c .if1 .taken))
+
+loop-again : tie.Need-loop-again Inv-loop μ-loop
+loop-again c = (search needs, c .before .before .before .before .loop .inv .1 ∙ look-on _ forms _ (c .before .before .before .before .loop .i) (search needs) (c .if1 .left))
+
+returns-2 : tie.Need-returns-2 Inv-loop μ-loop
+returns-2 c = sym (c .before .loop .inv .1 ∙ look-end _ forms (c .before .loop .i) (search needs))
+
+pub form-of-spec : {M : Type 1} → statement M
+form-of-spec =
+    tie.close
+    (tie.spec
+    Inv-loop
+    μ-loop
+    loop-holds
+    (λ c. search needs)
+    (λ c. search needs)
+    returns
+    (λ c. search needs)
+    (λ c. search needs)
+    loop-again
+    returns-2)

@@ -1,0 +1,199 @@
+// Headers: what the header of an element or an item says, and where a list or a sequence ends.
+pub mod table;
+
+use octets::u16_at;
+use octets::u32_at;
+use table::SQ;
+use table::form_of;
+use table::implicit_vr;
+use table::vr_differs;
+ghost use mathlib.Core.Path.{_≡_};
+ghost use Prim.Native.Nat.{_+_, _≤_, _<_};
+ghost use mathlib.Core.Bool.{true, false};
+ghost use lib.ListN.{length};
+ghost use Rattle.octets.specs.Octets.{numberAt};
+ghost use Rattle.headers.specs.Table.{formOf};
+ghost use Rattle.headers.specs.Header.{tagAt, lengthHead, headAt, itemHeadAt, closeAt};
+
+// The bytes of a value.
+pub struct Part {
+    pub from: usize,
+    pub stop: usize,
+}
+
+// What a list or a sequence holds. One of undefined length is loose: it ends at a delimiter before `stop`.
+pub struct Inside {
+    pub from: usize,
+    pub stop: usize,
+    pub loose: bool,
+}
+
+// What a header says: the refusal that it earns, a value, or a sequence or an item that holds more.
+pub enum Head {
+    Fault(u8),
+    Value(Part),
+    Nest(Inside),
+}
+
+// Whether a list or a sequence ends here, and the place after it.
+pub enum Close {
+    Here(usize),
+    Not,
+}
+
+pub fn tag_at(s: &[u8], at: usize) -> usize
+    requires { ⌜ at + 4 ≤ length (now s) ⌝ }
+    ensures { λ r. ⌜ (r ≡ tagAt (now (s .entry)) at) × (r < 4294967296) ⌝ }
+{
+    65536 * u16_at(s, at) + u16_at(s, at + 2)
+}
+
+// Where a list ends: at its stop if its length is defined, else at the delimiter `mark`.
+pub fn closing(s: &[u8], mark: usize, inside: Inside, at: usize) -> Close
+    requires { ⌜ (at ≤ inside .stop) × (inside .stop ≤ length (now s)) ⌝ }
+    ensures { λ r. ⌜ r ≡ closeAt (now (s .entry)) mark inside at ⌝ }
+{
+    if inside.loose {
+        if inside.stop - at < 8 {
+            return Close::Not;
+        }
+        if tag_at(s, at) != mark {
+            return Close::Not;
+        }
+        if u32_at(s, at + 4) != 0 {
+            return Close::Not;
+        }
+        return Close::Here(at + 8);
+    }
+    if at < inside.stop {
+        return Close::Not;
+    }
+    Close::Here(at)
+}
+
+// What is behind a header, by its VR and length: refusals 5, 2 and 1.
+fn length_head(from: usize, end: usize, vr: usize, length: usize) -> Head
+    requires { ⌜ from ≤ end ⌝ }
+    ensures { λ r. ⌜ r ≡ lengthHead from end vr length ⌝ }
+{
+    if length == 0xFFFF_FFFF {
+        if vr != SQ {
+            return Head::Fault(5);
+        }
+        return Head::Nest(Inside {
+            from,
+            stop: end,
+            loose: true,
+        });
+    }
+    if length % 2 == 1 {
+        return Head::Fault(2);
+    }
+    if end - from < length {
+        return Head::Fault(1);
+    }
+    if vr == SQ {
+        return Head::Nest(Inside {
+            from,
+            stop: from + length,
+            loose: false,
+        });
+    }
+    Head::Value(Part {
+        from,
+        stop: from + length,
+    })
+}
+
+// The header of an item.
+pub fn item_head(s: &[u8], end: usize, at: usize) -> Head
+    requires { ⌜ (at ≤ end) × (end ≤ length (now s)) ⌝ }
+    ensures { λ r. ⌜ r ≡ itemHeadAt (now (s .entry)) end at ⌝ }
+{
+    if end - at < 8 {
+        return Head::Fault(1);
+    }
+    if tag_at(s, at) != 0xFFFE_E000 {
+        return Head::Fault(6);
+    }
+    length_head(at + 8, end, SQ, u32_at(s, at + 4))
+}
+
+// The header of an element in implicit VR.
+fn implicit_head(s: &[u8], end: usize, at: usize, floor: usize) -> Head
+    requires { ⌜ (at + 8 ≤ end) × (end ≤ length (now s)) ⌝ }
+    ensures { λ r. ⌜ r ≡ headAt (now (s .entry)) false end at floor ⌝ }
+{
+    if u16_at(s, at) == 0xFFFE {
+        return Head::Fault(6);
+    }
+    let tag = tag_at(s, at);
+    if tag < floor {
+        return Head::Fault(3);
+    }
+    let length = u32_at(s, at + 4);
+    length_head(at + 8, end, implicit_vr(tag, length), length)
+}
+
+// The header of an element in explicit VR with a long-form VR.
+fn long_head(s: &[u8], end: usize, at: usize, floor: usize) -> Head
+    requires { ⌜ (at + 8 ≤ end) × (end ≤ length (now s)) ⌝ }
+    requires { ⌜ (numberAt 2 (now s) at ≡ 0xFFFE → ⊥) × (formOf (numberAt 2 (now s) (at + 4)) ≡ 12) ⌝ }
+    ensures { λ r. ⌜ r ≡ headAt (now (s .entry)) true end at floor ⌝ }
+{
+    if end - at < 12 {
+        return Head::Fault(1);
+    }
+    let tag = tag_at(s, at);
+    if tag < floor {
+        return Head::Fault(3);
+    }
+    if u16_at(s, at + 6) != 0 {
+        return Head::Fault(4);
+    }
+    let vr = u16_at(s, at + 4);
+    if vr_differs(tag, vr) {
+        return Head::Fault(4);
+    }
+    length_head(at + 12, end, vr, u32_at(s, at + 8))
+}
+
+// The header of an element in explicit VR.
+fn explicit_head(s: &[u8], end: usize, at: usize, floor: usize) -> Head
+    requires { ⌜ (at + 8 ≤ end) × (end ≤ length (now s)) ⌝ }
+    ensures { λ r. ⌜ r ≡ headAt (now (s .entry)) true end at floor ⌝ }
+{
+    if u16_at(s, at) == 0xFFFE {
+        return Head::Fault(6);
+    }
+    let vr = u16_at(s, at + 4);
+    let form = form_of(vr);
+    if form == 12 {
+        return long_head(s, end, at, floor);
+    }
+    let tag = tag_at(s, at);
+    if tag < floor {
+        return Head::Fault(3);
+    }
+    if form == 0 {
+        return Head::Fault(4);
+    }
+    if vr_differs(tag, vr) {
+        return Head::Fault(4);
+    }
+    length_head(at + 8, end, vr, u16_at(s, at + 6))
+}
+
+// The header of an element, whose tag must not be below `floor`.
+pub fn element_head(s: &[u8], explicit: bool, end: usize, at: usize, floor: usize) -> Head
+    requires { ⌜ (at ≤ end) × (end ≤ length (now s)) ⌝ }
+    ensures { λ r. ⌜ r ≡ headAt (now (s .entry)) explicit end at floor ⌝ }
+{
+    if end - at < 8 {
+        return Head::Fault(1);
+    }
+    if explicit {
+        return explicit_head(s, end, at, floor);
+    }
+    implicit_head(s, end, at, floor)
+}
