@@ -1,0 +1,223 @@
+-- What each way through the readers gives, one law each, and that what is found lies within.
+-- Assumes nothing.
+use mathlib.Core.Path.{_≡_, refl, subst, _∙_}
+use mathlib.Core.Bool.{Bool}
+use mathlib.Core.List.{List, [], _∷_}
+use Prim.Native.Nat.{ℕ, zero, suc, _+_, _-_, _≤_}
+use native.Mathlib.Numerals.{sub-one}
+use native.Mathlib.Omega.{arith}
+use lib.Dec.{eqb}
+use lib.ListN.{length}
+use borrow.Author.Tests.{eq-eqb, ne-eqb}
+use Rattle.choice.proofs.Picks.{pick-cases}
+use Rattle.headers.specs.declared.Part.{Part}
+use Rattle.headers.specs.declared.Inside.{Inside}
+use Rattle.headers.specs.declared.Head.{Head}
+use Rattle.headers.specs.declared.Head.the-variants.{Fault, Value, Nest}
+use Rattle.headers.specs.declared.Close.the-variants.{Here, Not}
+use Rattle.headers.specs.Header.{tagAt, headAt, itemHeadAt, closeAt}
+use Rattle.headers.proofs.Within.{Fits, HeadIn, head-in, item-head-in}
+use Rattle.elements.specs.declared.Read.the-variants.{Past, Refused}
+use Rattle.elements.specs.declared.Found.the-variants.{Missing}
+use Rattle.elements.specs.declared.Items.the-variants.{Empty, Several}
+use Rattle.elements.specs.Walk.{Next, again, done, follow, onward, onTrail}
+use Rattle.elements.specs.Reader.{itemEnd, sequenceEnd, orElse, Mark, start, listStep, listFrom, itemWith, itemStep, itemsFrom, elementAt, listAt, itemAt}
+use Rattle.elements.specs.Find.{elementsFrom, itemsOf, found, among, findAt, only, counted, itemsAt}
+use Rattle.elements.proofs.Within.{ReadIn, AllIn, FoundIn, ItemsIn}
+use Rattle.elements.proofs.Steps.{lower-all}
+use Rattle.elements.proofs.Grammar.{place, ElemIn, element-in, item-in, list-unroll, items-unroll, elements-unroll, items-of-unroll, elements-in, items-of-in}
+
+-- One header.
+
+module _ (s : List ℕ) (explicit : Bool) (end at floor : ℕ) (h : at ≤ end) where
+  pub head-nest : {inside : Inside} → headAt s explicit end at floor ≡ Nest inside → Fits (at + 8) (inside .from) (inside .stop) end
+  head-nest e = subst (HeadIn (at + 8) end) e (head-in s explicit end at floor h)
+
+  pub element-past : (room : ℕ) {q : ℕ} → elementAt s explicit room end at floor ≡ Past q → (at + 8 ≤ q) × (q ≤ end)
+  unfolding ElemIn
+  element-past room e = subst (ReadIn (at + 8) end) e (element-in s explicit room end at floor h)
+
+module _ (s : List ℕ) (end at : ℕ) (h : at ≤ end) where
+  pub item-head-nest : {inside : Inside} → itemHeadAt s end at ≡ Nest inside → Fits (at + 8) (inside .from) (inside .stop) end
+  item-head-nest e = subst (HeadIn (at + 8) end) e (item-head-in s end at h)
+
+  pub item-past : (explicit : Bool) (room : ℕ) {q : ℕ} → itemAt s explicit room end at ≡ Past q → (at + 8 ≤ q) × (q ≤ end)
+  unfolding itemAt
+  item-past explicit room e = subst (ReadIn (at + 8) end) e (item-in (elementAt s explicit room) (element-in s explicit room) s end at h)
+
+-- One element.
+
+pub element-fault : (s : List ℕ) (explicit : Bool) (room end at floor : ℕ) {n : ℕ} → headAt s explicit end at floor ≡ Fault n → elementAt s explicit room end at floor ≡ Refused n
+unfolding elementAt
+element-fault s explicit zero end at floor e = rw e
+element-fault s explicit (suc room) end at floor e = rw e
+
+pub element-value : (s : List ℕ) (explicit : Bool) (room end at floor : ℕ) {part : Part} → headAt s explicit end at floor ≡ Value part → elementAt s explicit room end at floor ≡ Past (part .stop)
+unfolding elementAt
+element-value s explicit zero end at floor e = rw e
+element-value s explicit (suc room) end at floor e = rw e
+
+pub element-full : (s : List ℕ) (explicit : Bool) (room end at floor : ℕ) {inside : Inside} → room ≡ 0 → headAt s explicit end at floor ≡ Nest inside → elementAt s explicit room end at floor ≡ Refused 7
+unfolding elementAt
+element-full s explicit zero end at floor z e = rw e
+element-full s explicit (suc room) end at floor z e = absurd (omega arith)
+
+pub element-nest : (s : List ℕ) (explicit : Bool) (room end at floor : ℕ) {inside : Inside} → (room ≡ 0 → ⊥) → headAt s explicit end at floor ≡ Nest inside → elementAt s explicit room end at floor ≡ itemsFrom (elementAt s explicit (room - 1)) s inside (inside .from)
+unfolding elementAt
+element-nest s explicit zero end at floor z e = absurd (z refl)
+element-nest s explicit (suc room) end at floor z e = rw (e, sub-one (suc room))
+
+-- One item.
+
+module _ (s : List ℕ) (explicit : Bool) (room end at : ℕ) where
+  pub item-fault : {n : ℕ} → itemHeadAt s end at ≡ Fault n → itemAt s explicit room end at ≡ Refused n
+  unfolding itemAt itemWith
+  item-fault e = rw e
+
+  pub item-value : {part : Part} → itemHeadAt s end at ≡ Value part → itemAt s explicit room end at ≡ Past (part .stop)
+  unfolding itemAt itemWith
+  item-value e = rw e
+
+  pub item-nest : {inside : Inside} → itemHeadAt s end at ≡ Nest inside → itemAt s explicit room end at ≡ listAt s explicit room inside
+  unfolding itemAt itemWith listAt
+  item-nest e = rw e
+
+-- One step of each walk.
+
+abbrev mark : ℕ → ℕ → Mark
+mark at floor = record { at = at; floor = floor }
+
+module _ (s : List ℕ) (explicit : Bool) (room : ℕ) (inside : Inside) (at : ℕ) (h : at ≤ inside .stop) where
+  items-on : itemsFrom (elementAt s explicit room) s inside at ≡ follow (λ y. itemsFrom (elementAt s explicit room) s inside y) (orElse (closeAt s sequenceEnd inside at) (onward (itemAt s explicit room (inside .stop) at) (λ q. q)))
+  unfolding itemStep itemAt
+  items-on = items-unroll (elementAt s explicit room) (element-in s explicit room) s inside at h
+
+  pub items-done : {q : ℕ} → closeAt s sequenceEnd inside at ≡ Here q → itemsFrom (elementAt s explicit room) s inside at ≡ Past q
+  items-done k = items-on ∙ rw k
+
+  pub items-refused : {n : ℕ} → closeAt s sequenceEnd inside at ≡ Not → itemAt s explicit room (inside .stop) at ≡ Refused n → itemsFrom (elementAt s explicit room) s inside at ≡ Refused n
+  items-refused k e = items-on ∙ rw (k, e)
+
+  pub items-more : {q : ℕ} → closeAt s sequenceEnd inside at ≡ Not → itemAt s explicit room (inside .stop) at ≡ Past q → itemsFrom (elementAt s explicit room) s inside at ≡ itemsFrom (elementAt s explicit room) s inside q
+  items-more k e = items-on ∙ rw (k, e)
+
+  items-of-on : itemsOf s explicit room inside at ≡ onTrail at (λ y. itemsOf s explicit room inside y) (orElse (closeAt s sequenceEnd inside at) (onward (itemAt s explicit room (inside .stop) at) (λ q. q)))
+  unfolding itemStep itemAt itemsOf
+  items-of-on = items-of-unroll (elementAt s explicit room) (element-in s explicit room) s inside at h
+
+  pub items-of-done : {q : ℕ} → closeAt s sequenceEnd inside at ≡ Here q → itemsOf s explicit room inside at ≡ []
+  items-of-done k = items-of-on ∙ rw k
+
+  pub items-of-refused : {n : ℕ} → closeAt s sequenceEnd inside at ≡ Not → itemAt s explicit room (inside .stop) at ≡ Refused n → itemsOf s explicit room inside at ≡ []
+  items-of-refused k e = items-of-on ∙ rw (k, e)
+
+  pub items-of-more : {q : ℕ} → closeAt s sequenceEnd inside at ≡ Not → itemAt s explicit room (inside .stop) at ≡ Past q → itemsOf s explicit room inside at ≡ at ∷ itemsOf s explicit room inside q
+  items-of-more k e = items-of-on ∙ rw (k, e)
+
+  module _ (floor : ℕ) where
+    list-on : listFrom (elementAt s explicit room) s inside (mark at floor) ≡ follow (λ y. listFrom (elementAt s explicit room) s inside y) (orElse (closeAt s itemEnd inside at) (onward (elementAt s explicit room (inside .stop) at floor) (λ q. mark q (tagAt s at + 1))))
+    unfolding listStep
+    list-on = list-unroll (elementAt s explicit room) (element-in s explicit room) s inside (mark at floor) h
+
+    pub list-done : {q : ℕ} → closeAt s itemEnd inside at ≡ Here q → listFrom (elementAt s explicit room) s inside (mark at floor) ≡ Past q
+    list-done k = list-on ∙ rw k
+
+    pub list-refused : {n : ℕ} → closeAt s itemEnd inside at ≡ Not → elementAt s explicit room (inside .stop) at floor ≡ Refused n → listFrom (elementAt s explicit room) s inside (mark at floor) ≡ Refused n
+    list-refused k e = list-on ∙ rw (k, e)
+
+    pub list-more : {q : ℕ} → closeAt s itemEnd inside at ≡ Not → elementAt s explicit room (inside .stop) at floor ≡ Past q → listFrom (elementAt s explicit room) s inside (mark at floor) ≡ listFrom (elementAt s explicit room) s inside (mark q (tagAt s at + 1))
+    list-more k e = list-on ∙ rw (k, e)
+
+    elements-on : elementsFrom s explicit room inside (mark at floor) ≡ onTrail (mark at floor) (λ y. elementsFrom s explicit room inside y) (orElse (closeAt s itemEnd inside at) (onward (elementAt s explicit room (inside .stop) at floor) (λ q. mark q (tagAt s at + 1))))
+    unfolding listStep elementsFrom
+    elements-on = elements-unroll (elementAt s explicit room) (element-in s explicit room) s inside (mark at floor) h
+
+    module _ (tag : ℕ) where
+      pub find-done : {q : ℕ} → closeAt s itemEnd inside at ≡ Here q → among s explicit (inside .stop) tag (elementsFrom s explicit room inside (mark at floor)) ≡ Missing
+      find-done k = rw (elements-on, k)
+
+      pub find-refused : {n : ℕ} → closeAt s itemEnd inside at ≡ Not → elementAt s explicit room (inside .stop) at floor ≡ Refused n → among s explicit (inside .stop) tag (elementsFrom s explicit room inside (mark at floor)) ≡ Missing
+      find-refused k e = rw (elements-on, k, e)
+
+      pub find-here : {q : ℕ} → closeAt s itemEnd inside at ≡ Not → elementAt s explicit room (inside .stop) at floor ≡ Past q → tagAt s at ≡ tag → among s explicit (inside .stop) tag (elementsFrom s explicit room inside (mark at floor)) ≡ found (headAt s explicit (inside .stop) at floor)
+      find-here k e t = rw (elements-on, k, e, eq-eqb _ _ t)
+
+      pub find-more : {q : ℕ} → closeAt s itemEnd inside at ≡ Not → elementAt s explicit room (inside .stop) at floor ≡ Past q → (tagAt s at ≡ tag → ⊥) → among s explicit (inside .stop) tag (elementsFrom s explicit room inside (mark at floor)) ≡ among s explicit (inside .stop) tag (elementsFrom s explicit room inside (mark q (tagAt s at + 1)))
+      find-more k e t = rw (elements-on, k, e, ne-eqb _ _ t)
+
+-- The items, by how many there are.
+
+count-none : (s : List ℕ) (end : ℕ) (l : List ℕ) → length l ≡ 0 → counted s end l ≡ Empty
+count-none s end [] e = refl
+count-none s end (x ∷ l) e = absurd (omega arith)
+
+count-several : (s : List ℕ) (end n : ℕ) (l : List ℕ) → n ≡ length l → (n ≡ 0 → ⊥) → (n ≡ 1 → ⊥) → counted s end l ≡ Several n
+count-several s end n [] e z o = absurd (z e)
+count-several s end n (x ∷ []) e z o = absurd (o e)
+count-several s end n (x ∷ (y ∷ l)) e z o = rw e
+
+only-head : (s : List ℕ) (end x : ℕ) (l : List ℕ) → length (x ∷ l) ≡ 1 → counted s end (x ∷ l) ≡ only (itemHeadAt s end x)
+only-head s end x [] e = refl
+only-head s end x (y ∷ l) e = absurd (omega arith)
+
+first-of : (s : List ℕ) (end x : ℕ) (rest : ℕ → List ℕ) (n : Next ℕ) → length (onTrail x rest n) ≡ 1 → counted s end (onTrail x rest n) ≡ only (itemHeadAt s end x)
+first-of s end x rest (again y) e = only-head s end x (rest y) e
+first-of s end x rest (done r) e = absurd (omega arith)
+
+module _ (s : List ℕ) (explicit : Bool) (room : ℕ) (inside : Inside) where
+  pub items-none : length (itemsOf s explicit room inside (inside .from)) ≡ 0 → itemsAt s explicit room inside ≡ Empty
+  unfolding itemsAt
+  items-none e = count-none s (inside .stop) (itemsOf s explicit room inside (inside .from)) e
+
+  -- the only item is the first
+  pub items-one : inside .from ≤ inside .stop → length (itemsOf s explicit room inside (inside .from)) ≡ 1 → itemsAt s explicit room inside ≡ only (itemHeadAt s (inside .stop) (inside .from))
+  unfolding itemsAt
+  items-one h e =
+      let u = items-of-on s explicit room inside (inside .from) h in
+      rw u
+      (first-of s (inside .stop) (inside .from) (λ y. itemsOf s explicit room inside y)
+      (orElse (closeAt s sequenceEnd inside (inside .from)) (onward (itemAt s explicit room (inside .stop) (inside .from)) (λ q. q)))
+      (rw u at e))
+
+  pub items-several : (n : ℕ) → n ≡ length (itemsOf s explicit room inside (inside .from)) → (n ≡ 0 → ⊥) → (n ≡ 1 → ⊥) → itemsAt s explicit room inside ≡ Several n
+  unfolding itemsAt
+  items-several n = count-several s (inside .stop) n (itemsOf s explicit room inside (inside .from))
+
+-- What is found lies within the list.
+
+found-in : (low end : ℕ) (d : Head) → HeadIn low end d → FoundIn low end (found d)
+found-in low end (Fault n) g = tt
+found-in low end (Value part) g = g
+found-in low end (Nest inside) g = g
+
+lower-head : (low low′ end : ℕ) (d : Head) → low ≤ low′ → HeadIn low′ end d → HeadIn low end d
+lower-head low low′ end (Fault n) h g = tt
+lower-head low low′ end (Value part) h g = (omega arith, g .1)
+lower-head low low′ end (Nest inside) h g = (omega arith, g .1)
+
+among-in : (s : List ℕ) (explicit : Bool) (low end tag : ℕ) (ms : List Mark) → AllIn place low end ms → FoundIn (low + 8) end (among s explicit end tag ms)
+among-in s explicit low end tag [] h = tt
+among-in s explicit low end tag (m ∷ ms) h =
+    pick-cases (FoundIn (low + 8) end) (eqb (tagAt s (m .at)) tag) _ _
+    (λ _. found-in (low + 8) end (headAt s explicit end (m .at) (m .floor)) (lower-head (low + 8) (m .at + 8) end (headAt s explicit end (m .at) (m .floor)) (omega arith) (head-in s explicit end (m .at) (m .floor) (h .0 .1))))
+    (λ _. among-in s explicit low end tag ms (h .1))
+
+pub find-within : (s : List ℕ) (explicit : Bool) (room : ℕ) (inside : Inside) (tag : ℕ) → inside .from ≤ inside .stop → FoundIn (inside .from + 8) (inside .stop) (findAt s explicit room inside tag)
+unfolding findAt elementsFrom
+find-within s explicit room inside tag h =
+    among-in s explicit (inside .from) (inside .stop) tag (elementsFrom s explicit room inside (start inside)) (elements-in (elementAt s explicit room) (element-in s explicit room) s inside (start inside) h)
+
+only-in : (low end : ℕ) (d : Head) → HeadIn low end d → ItemsIn low end (only d)
+only-in low end (Fault n) g = tt
+only-in low end (Value part) g = tt
+only-in low end (Nest inside) g = g
+
+counted-in : (s : List ℕ) (low end : ℕ) (l : List ℕ) → AllIn (λ x. x) low end l → ItemsIn (low + 8) end (counted s end l)
+counted-in s low end [] h = tt
+counted-in s low end (at ∷ []) h = only-in (low + 8) end (itemHeadAt s end at) (lower-head (low + 8) (at + 8) end (itemHeadAt s end at) (omega arith) (item-head-in s end at (h .0 .1)))
+counted-in s low end (at ∷ (next ∷ more)) h = tt
+
+pub items-within : (s : List ℕ) (explicit : Bool) (room : ℕ) (inside : Inside) → inside .from ≤ inside .stop → ItemsIn (inside .from + 8) (inside .stop) (itemsAt s explicit room inside)
+unfolding itemsAt itemsOf
+items-within s explicit room inside h =
+    counted-in s (inside .from) (inside .stop) (itemsOf s explicit room inside (inside .from)) (items-of-in (elementAt s explicit room) (element-in s explicit room) s inside (inside .from) h)

@@ -1,0 +1,87 @@
+-- Elements (PS3.5): the grammar. A list holds elements, a sequence element holds items, an item holds a list.
+use Prim.Native.Nat.{ℕ, zero, suc, _+_, _-_}
+use mathlib.Core.Bool.{Bool, false}
+use mathlib.Core.List.{List}
+use lib.ListN.{length}
+use Rattle.headers.specs.declared.Inside.{Inside}
+use Rattle.headers.specs.declared.Head.{Head}
+use Rattle.headers.specs.declared.Head.the-variants.{Fault, Value, Nest}
+use Rattle.headers.specs.declared.Close.{Close}
+use Rattle.headers.specs.declared.Close.the-variants.{Here, Not}
+use Rattle.headers.specs.Header.{tagAt, headAt, itemHeadAt, closeAt}
+use Rattle.elements.specs.declared.Read.{Read}
+use Rattle.elements.specs.declared.Read.the-variants.{Past, Refused}
+use Rattle.elements.specs.Walk.{Next, again, done, onward, walk}
+
+-- the delimiters that close the list of an item and a sequence
+abbrev pub itemEnd : ℕ
+itemEnd = 0xFFFE_E00D
+
+abbrev pub sequenceEnd : ℕ
+sequenceEnd = 0xFFFE_E0DD
+
+-- a reader of one element: the enclosing end, the place, and the lowest tag that may stand there
+abbrev pub Elem : Type 0
+Elem = ℕ → ℕ → ℕ → Read
+
+-- what is read behind a header
+abbrev pub behind : (Inside → Read) → Head → Read
+behind held (Fault n) = Refused n
+behind held (Value part) = Past (part .stop)
+behind held (Nest inside) = held inside
+
+-- at the end of a list, or with one more part
+abbrev pub orElse : {S : Type 0} → Close → Next S → Next S
+orElse (Here q) more = done (Past q)
+orElse Not more = more
+
+-- where the walk of a list stands: the place, and the lowest tag that may follow
+pub record Mark : Type 0 where
+  pub at : ℕ
+  pub floor : ℕ
+
+abbrev pub start : Inside → Mark
+start inside = record { at = inside .from; floor = 0 }
+
+unfoldable pub listStep : Elem → List ℕ → Inside → Mark → Next Mark
+listStep element s inside m =
+    orElse (closeAt s itemEnd inside (m .at))
+    (onward (element (inside .stop) (m .at) (m .floor)) (λ q. record { at = q; floor = tagAt s (m .at) + 1 }))
+
+-- a list: elements, with tags that ascend
+unfoldable pub listFrom : Elem → List ℕ → Inside → Mark → Read
+listFrom element s inside m = walk (listStep element s inside) (suc (inside .stop - m .at)) m
+
+-- an item: its header, and its list
+unfoldable pub itemWith : Elem → List ℕ → ℕ → ℕ → Read
+itemWith element s end at = behind (λ inside. listFrom element s inside (start inside)) (itemHeadAt s end at)
+
+unfoldable pub itemStep : Elem → List ℕ → Inside → ℕ → Next ℕ
+itemStep element s inside at =
+    orElse (closeAt s sequenceEnd inside at)
+    (onward (itemWith element s (inside .stop) at) (λ q. q))
+
+-- a sequence: items
+unfoldable pub itemsFrom : Elem → List ℕ → Inside → ℕ → Read
+itemsFrom element s inside at = walk (itemStep element s inside) (suc (inside .stop - at)) at
+
+-- an element, with room for so many sequences within one another; with room for none, a sequence is refusal 7
+unfoldable pub elementAt : List ℕ → Bool → ℕ → Elem
+elementAt s explicit zero end at floor =
+    behind (λ inside. Refused 7) (headAt s explicit end at floor)
+elementAt s explicit (suc room) end at floor =
+    behind (λ inside. itemsFrom (elementAt s explicit room) s inside (inside .from)) (headAt s explicit end at floor)
+
+unfoldable pub listAt : List ℕ → Bool → ℕ → Inside → Read
+listAt s explicit room inside = listFrom (elementAt s explicit room) s inside (start inside)
+
+unfoldable pub itemAt : List ℕ → Bool → ℕ → ℕ → ℕ → Read
+itemAt s explicit room end at = itemWith (elementAt s explicit room) s end at
+
+-- all the bytes, as one list of defined length
+abbrev pub whole : List ℕ → Inside
+whole s = record { from = 0; stop = length s; loose = false }
+
+-- a data set or a command set: four sequences within one another are read, the fifth is refused
+unfoldable pub dataSet : List ℕ → Bool → Read
+dataSet s explicit = listAt s explicit 4 (whole s)

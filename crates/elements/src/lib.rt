@@ -1,0 +1,205 @@
+// Elements: the reader of element lists, in implicit and explicit VR, with defined and undefined lengths.
+use headers::Close;
+use headers::Head;
+use headers::Inside;
+use headers::Part;
+use headers::closing;
+use headers::element_head;
+use headers::item_head;
+use headers::tag_at;
+ghost use mathlib.Core.Path.{_≡_};
+ghost use Prim.Native.Nat.{_≤_};
+ghost use lib.ListN.{length};
+ghost use Rattle.elements.specs.Reader.{elementAt, itemAt, listAt, dataSet};
+ghost use Rattle.elements.specs.Find.{found, only, itemsOf, findAt, itemsAt};
+
+// The delimiters that close an item's list and a sequence of undefined length.
+const ITEM_END: usize = 0xFFFE_E00D;
+
+const SEQUENCE_END: usize = 0xFFFE_E0DD;
+
+// The place after what was read, or the number of the refusal.
+pub enum Read {
+    Past(usize),
+    Refused(u8),
+}
+
+// What a list holds under a tag: nothing, a value, or a sequence.
+pub enum Found {
+    Missing,
+    Value(Part),
+    Sequence(Inside),
+}
+
+// The items of a sequence: none, one and what its list holds, or how many.
+pub enum Items {
+    Empty,
+    One(Inside),
+    Several(usize),
+}
+
+// The list of elements that a data set or an item holds.
+fn list(s: &[u8], explicit: bool, room: usize, inside: Inside) -> Read
+    requires { ⌜ (inside .from ≤ inside .stop) × (inside .stop ≤ length (now s)) ⌝ }
+    ensures { λ r. ⌜ r ≡ listAt (now (s .entry)) explicit room inside ⌝ }
+{
+    let mut p = inside.from;
+    let mut floor = 0;
+    loop {
+        let close = closing(s, ITEM_END, inside, p);
+        if let Close::Here(q) = close {
+            return Read::Past(q);
+        }
+        match element(s, explicit, room, inside.stop, p, floor) {
+            Read::Past(q) => {
+                floor = tag_at(s, p) + 1;
+                p = q;
+            }
+            Read::Refused(n) => {
+                return Read::Refused(n);
+            }
+        }
+    }
+}
+
+// One element: a value is passed over, and a sequence is read item by item.
+fn element(s: &[u8], explicit: bool, room: usize, end: usize, at: usize, floor: usize) -> Read
+    requires { ⌜ (at ≤ end) × (end ≤ length (now s)) ⌝ }
+    ensures { λ r. ⌜ r ≡ elementAt (now (s .entry)) explicit room end at floor ⌝ }
+{
+    match element_head(s, explicit, end, at, floor) {
+        Head::Fault(n) => Read::Refused(n),
+        Head::Value(part) => Read::Past(part.stop),
+        Head::Nest(inside) => {
+            if room == 0 {
+                return Read::Refused(7);
+            }
+            let mut p = inside.from;
+            loop {
+                let close = closing(s, SEQUENCE_END, inside, p);
+                if let Close::Here(q) = close {
+                    return Read::Past(q);
+                }
+                match item(s, explicit, room - 1, inside.stop, p) {
+                    Read::Past(q) => {
+                        p = q;
+                    }
+                    Read::Refused(n) => {
+                        return Read::Refused(n);
+                    }
+                }
+            }
+        }
+    }
+}
+
+// One item of a sequence.
+fn item(s: &[u8], explicit: bool, room: usize, end: usize, at: usize) -> Read
+    requires { ⌜ (at ≤ end) × (end ≤ length (now s)) ⌝ }
+    ensures { λ r. ⌜ r ≡ itemAt (now (s .entry)) explicit room end at ⌝ }
+{
+    match item_head(s, end, at) {
+        Head::Fault(n) => Read::Refused(n),
+        Head::Value(part) => Read::Past(part.stop),
+        Head::Nest(inside) => list(s, explicit, room, inside),
+    }
+}
+
+// A whole data set or command set.
+pub fn data_set(s: &[u8], explicit: bool) -> Read
+    ensures { λ r. ⌜ r ≡ dataSet (now (s .entry)) explicit ⌝ }
+{
+    let whole = Inside {
+        from: 0,
+        stop: s.len(),
+        loose: false,
+    };
+    list(s, explicit, 4, whole)
+}
+
+fn found_of(head: Head) -> Found
+    ensures { λ r. ⌜ r ≡ found head ⌝ }
+{
+    match head {
+        Head::Fault(_) => Found::Missing,
+        Head::Value(part) => Found::Value(part),
+        Head::Nest(inside) => Found::Sequence(inside),
+    }
+}
+
+// What a list holds under a tag.
+pub fn find(s: &[u8], explicit: bool, room: usize, inside: Inside, tag: usize) -> Found
+    requires { ⌜ (inside .from ≤ inside .stop) × (inside .stop ≤ length (now s)) ⌝ }
+    ensures { λ r. ⌜ r ≡ findAt (now (s .entry)) explicit room inside tag ⌝ }
+{
+    let mut p = inside.from;
+    let mut floor = 0;
+    loop {
+        let close = closing(s, ITEM_END, inside, p);
+        if let Close::Here(_) = close {
+            return Found::Missing;
+        }
+        match element(s, explicit, room, inside.stop, p, floor) {
+            Read::Past(q) => {
+                let t = tag_at(s, p);
+                if t == tag {
+                    return found_of(element_head(s, explicit, inside.stop, p, floor));
+                }
+                floor = t + 1;
+                p = q;
+            }
+            Read::Refused(_) => {
+                return Found::Missing;
+            }
+        }
+    }
+}
+
+fn only_list(head: Head) -> Items
+    ensures { λ r. ⌜ r ≡ only head ⌝ }
+{
+    match head {
+        Head::Fault(_) => Items::Empty,
+        Head::Value(_) => Items::Empty,
+        Head::Nest(inside) => Items::One(inside),
+    }
+}
+
+// How many items a sequence has.
+fn count_items(s: &[u8], explicit: bool, room: usize, inside: Inside) -> usize
+    requires { ⌜ (inside .from ≤ inside .stop) × (inside .stop ≤ length (now s)) ⌝ }
+    ensures { λ r. ⌜ r ≡ length (itemsOf (now (s .entry)) explicit room inside (inside .from)) ⌝ }
+{
+    let mut p = inside.from;
+    let mut count = 0;
+    loop {
+        let close = closing(s, SEQUENCE_END, inside, p);
+        if let Close::Here(_) = close {
+            return count;
+        }
+        match item(s, explicit, room, inside.stop, p) {
+            Read::Past(q) => {
+                count += 1;
+                p = q;
+            }
+            Read::Refused(_) => {
+                return count;
+            }
+        }
+    }
+}
+
+// The items of a sequence.
+pub fn items_in(s: &[u8], explicit: bool, room: usize, inside: Inside) -> Items
+    requires { ⌜ (inside .from ≤ inside .stop) × (inside .stop ≤ length (now s)) ⌝ }
+    ensures { λ r. ⌜ r ≡ itemsAt (now (s .entry)) explicit room inside ⌝ }
+{
+    let count = count_items(s, explicit, room, inside);
+    if count == 0 {
+        return Items::Empty;
+    }
+    if count == 1 {
+        return only_list(item_head(s, inside.stop, inside.from));
+    }
+    Items::Several(count)
+}
