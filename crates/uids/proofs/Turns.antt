@@ -1,4 +1,4 @@
--- What one turn of each loop does.
+-- What one turn of each loop does, and what a test of the code tells.
 -- Assumes nothing.
 use Prim.Native.Nat.{ℕ, suc, _+_, _-_, _<_, _≤_}
 use mathlib.Core.Path.{_≡_, refl, sym}

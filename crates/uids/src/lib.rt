@@ -97,7 +97,7 @@ fn digit(n: u32) -> u8
     ZERO + (n % 10) as u8
 }
 
-// A number in decimal from a place on; answers the place behind it.
+// A number in decimal from a place on; answers the place behind it. The tens come first, by a call of itself: ten deep at most.
 fn put_decimal(out: &mut [u8], at: usize, n: u32) -> usize
     requires { ⌜ at + length (decimal n) ≤ length (now out) ⌝ }
     ensures { λ r. ⌜ (now (out .exit) ≡ laid (now (out .entry)) at (decimal n)) × (r ≡ at + length (decimal n)) ⌝ }

@@ -1,7 +1,6 @@
-use Prim.Native.Nat.{_+_}
 use mathlib.Core.Path.{_∙_}
 use native.Mathlib.Omega.{arith}
-use lib.ListN.{length, length-set}
+use lib.ListN.{length-set}
 use Rattle.uids.proofs.Decimal.{decimal-length}
 use Rattle.uids.proofs.Made.{made-length}
 use Rattle.uids.proofs.Written.{made-written}
@@ -14,9 +13,7 @@ put-decimal-requires c κs = let start = c .before .before .before .before .befo
     rw length-set (omega (arith, decimal-length (start .args .serial) (search needs), c .before .before .before .put .kept .0))
 
 same-length : tie.Need-same-length
-same-length c = let a = c .before .before .before .before .before .before .before .before .before .before .args in
-    let front = c .before .before .before .before .before .before .put in
-    c .before .before .put-decimal .kept .0 ∙ length-set (front .last .0) (a .at + length (a .root .now)) 46 ∙ front .kept .0
+same-length c = c .before .before .put-decimal .kept .0 ∙ simp length-set (c .before .before .before .before .before .before .put .kept .0)
 
 returns : tie.Need-returns
 returns c = let a = c .before .before .before .before .before .before .before .before .before .before .args in
