@@ -47,8 +47,8 @@ unfolding root made decimal lastDigits
 hundredth = refl
 
 -- the ten digits of the greatest serial
-greatest : lastDigits 10 4294967295 ≡ 52 ∷ 50 ∷ 57 ∷ 52 ∷ 57 ∷ 54 ∷ 55 ∷ 50 ∷ 57 ∷ 53 ∷ []
-unfolding lastDigits
+greatest : decimal 4294967295 ≡ 52 ∷ 50 ∷ 57 ∷ 52 ∷ 57 ∷ 54 ∷ 55 ∷ 50 ∷ 57 ∷ 53 ∷ []
+unfolding decimal lastDigits
 greatest = refl
 
 -- "1.9.70.5"

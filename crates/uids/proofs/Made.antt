@@ -21,19 +21,19 @@ module _ (root : List ℕ) (serial : ℕ) where
   unfolding made
   made-length = rw (length-append root (46 ∷ decimal serial)) (omega arith)
 
-  pub made-short : length root ≤ 40 → serial < 4294967296 → length (made root serial) ≤ 51
-  made-short h k = omega (arith, made-length, decimal-length serial k)
+  pub made-short : length root ≤ 40 → length (made root serial) ≤ 51
+  made-short h = omega (arith, made-length, decimal-length serial)
 
-  made-components : components [] root ≡ true → components [] (made root serial) ≡ true
+  made-components : components [] root ≡ true → serial < 10000000000 → components [] (made root serial) ≡ true
   unfolding made
-  made-components e = rw (components-joined [] root (decimal serial), e, components-one [] (decimal serial) (decimal-digits serial)) (decimal-component serial)
+  made-components e k = rw (components-joined [] root (decimal serial), e, components-one [] (decimal serial) (decimal-digits serial k)) (decimal-component serial k)
 
   pub made-uid : isUid root ≡ true → length root ≤ 40 → serial < 4294967296 → isUid (made root serial) ≡ true
   unfolding isUid
   made-uid e h k =
-      both-holds (leb (length (made root serial)) 64) (components [] (made root serial))
-      (le-leb (length (made root serial)) 64 (omega (arith, made-short h k)))
-      (made-components (both-true (leb (length root) 64) (components [] root) e .1))
+      both-holds (leb (length (made root serial)) _) (components [] (made root serial))
+      (le-leb (length (made root serial)) _ (omega (arith, made-short h)))
+      (made-components (both-true (leb (length root) _) (components [] root) e .1) (omega arith))
 
   pub made-begins : beginsWith root (made root serial) ≡ true
   unfolding beginsWith made
@@ -44,9 +44,9 @@ module _ (root : List ℕ) (serial : ℕ) where
   never-made uid n e = clash (sym (ap (beginsWith root) e) ∙ n) made-begins
 
 -- two serials make two UIDs
-pub made-apart : (root : List ℕ) (a b : ℕ) → made root a ≡ made root b → a ≡ b
+pub made-apart : (root : List ℕ) (a b : ℕ) → a < 4294967296 → b < 4294967296 → made root a ≡ made root b → a ≡ b
 unfolding made
-made-apart root a b e =
+made-apart root a b h k e =
     let behind : _≡_ {A = List ℕ} (46 ∷ decimal a) (46 ∷ decimal b) = sym (drop-append-seam root (46 ∷ decimal a)) ∙ ap (drop (length root)) e ∙ drop-append-seam root (46 ∷ decimal b) in
     let digits : decimal a ≡ decimal b = cc in
-    decimal-apart a b digits
+    decimal-apart a b (omega arith) (omega arith) digits

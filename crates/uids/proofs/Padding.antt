@@ -36,7 +36,7 @@ module _ (v : List ℕ) where
 -- no character of a UID is 0
 pub uid-solid : (u : List ℕ) → isUid u ≡ true → (i : ℕ) → i < length u → getD u i 0 ≡ 0 → ⊥
 unfolding isUid
-uid-solid u e = solid-at u (components-solid [] u (both-true (leb (length u) 64) (components [] u) e .1))
+uid-solid u e = solid-at u (components-solid [] u (both-true (leb (length u) _) (components [] u) e .1))
 
 -- the padding is taken off
 pub unpadded-padded : (u : List ℕ) → unpadded (u ++ (0 ∷ [])) ≡ u

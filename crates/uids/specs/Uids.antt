@@ -38,9 +38,9 @@ unfoldable pub lastDigits : ℕ → ℕ → List ℕ
 lastDigits zero n = []
 lastDigits (suc most) n = pick (ltb n 10) [] (lastDigits most (n / 10)) ++ ((48 + n % 10) ∷ [])
 
--- a number in decimal: all its digits, which are never more than one more than itself
+-- a serial in decimal: ten digits are enough for 32 bits
 unfoldable pub decimal : ℕ → List ℕ
-decimal n = lastDigits (suc n) n
+decimal n = lastDigits 10 n
 
 -- the UID made of a root, a dot and a serial
 unfoldable pub made : List ℕ → ℕ → List ℕ

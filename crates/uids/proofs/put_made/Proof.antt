@@ -10,7 +10,7 @@ use Rattle.uids.proofs.put_made.Tie as tie
 
 put-decimal-requires : tie.Need-put-decimal-requires
 put-decimal-requires c κs = let start = c .before .before .before .before .before .before .before in
-    rw length-set (omega (arith, decimal-length (start .args .serial) (search needs), c .before .before .before .put .kept .0))
+    rw length-set (omega (arith, decimal-length (start .args .serial), c .before .before .before .put .kept .0))
 
 same-length : tie.Need-same-length
 same-length c = c .before .before .put-decimal .kept .0 ∙ simp length-set (c .before .before .before .before .before .before .put .kept .0)
