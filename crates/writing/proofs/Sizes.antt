@@ -1,0 +1,86 @@
+-- How long what is written is.
+-- Assumes nothing.
+use Prim.Native.Nat.{ℕ, _+_, _≤_, _/_, _%_}
+use mathlib.Core.Path.{_≡_, refl, ap, _∙_}
+use mathlib.Core.Bool.{Bool, true, false}
+use mathlib.Core.List.{List, _++_}
+use native.Mathlib.Omega.{arith}
+use lib.Dec.{eqb}
+use borrow.Author.Tests.{eq-eqb, ne-eqb}
+use Rattle.choice.proofs.Picks.{pick-cases}
+use lib.ListN.{length, length-append}
+use Rattle.choice.specs.Pick.{pick, both}
+use Rattle.octets.specs.Octets.{octets}
+use Rattle.octets.proofs.Numbers.{octets-length}
+use Rattle.headers.specs.Table.{formOf}
+use Rattle.writing.specs.Bytes.{padding, padded, tagOctets, vrOctets, headerSize, header, itemHeader, headed, element}
+
+pub tag-length : (tag : ℕ) → length (tagOctets tag) ≡ 4
+unfolding tagOctets
+tag-length tag = simp (length-append, octets-length)
+
+vr-length-by : (long : Bool) (vr size : ℕ) → length (octets 2 vr ++ pick long (octets 2 0 ++ octets 4 size) (octets 2 size)) ≡ pick long 8 4
+vr-length-by true vr size = simp (length-append, octets-length)
+vr-length-by false vr size = simp (length-append, octets-length)
+
+pub vr-length : (vr size : ℕ) → length (vrOctets vr size) ≡ pick (eqb (formOf vr) 12) 8 4
+unfolding vrOctets
+vr-length vr size = vr-length-by (eqb (formOf vr) 12) vr size
+
+pub vr-least : (vr size : ℕ) → 4 ≤ length (vrOctets vr size)
+vr-least vr size = rw (vr-length vr size) (pick-cases (λ (n : ℕ). 4 ≤ n) (eqb (formOf vr) 12) 8 4 (λ _. omega arith) (λ _. omega arith))
+
+pub vr-long-length : (vr size : ℕ) → formOf vr ≡ 12 → length (vrOctets vr size) ≡ 8
+vr-long-length vr size e = vr-length vr size ∙ rw (eq-eqb _ _ e)
+
+pub vr-short-length : (vr size : ℕ) → (formOf vr ≡ 12 → ⊥) → length (vrOctets vr size) ≡ 4
+vr-short-length vr size e = vr-length vr size ∙ rw (ne-eqb _ _ e)
+
+header-length-by : (explicit long : Bool) (tag vr size : ℕ) → length (vrOctets vr size) ≡ pick long 8 4
+    → length (tagOctets tag ++ pick explicit (vrOctets vr size) (octets 4 size)) ≡ pick (both explicit long) 12 8
+header-length-by true true tag vr size e = simp (length-append, tag-length, e)
+header-length-by true false tag vr size e = simp (length-append, tag-length, e)
+header-length-by false long tag vr size e = simp (length-append, tag-length, octets-length)
+
+pub header-length : (explicit : Bool) (tag vr size : ℕ) → length (header explicit tag vr size) ≡ headerSize explicit vr
+unfolding header headerSize
+header-length explicit tag vr size = header-length-by explicit (eqb (formOf vr) 12) tag vr size (vr-length vr size)
+
+pub explicit-length : (explicit : Bool) (tag vr size : ℕ) → explicit ≡ true → length (header explicit tag vr size) ≡ 4 + length (vrOctets vr size)
+unfolding header
+explicit-length explicit tag vr size e = simp (e, length-append, tag-length)
+
+pub implicit-length : (explicit : Bool) (tag vr size : ℕ) → explicit ≡ false → length (header explicit tag vr size) ≡ 8
+unfolding header
+implicit-length explicit tag vr size e = simp (e, length-append, tag-length, octets-length)
+
+-- a header has eight or twelve bytes
+size-by : (b : Bool) → (8 ≤ pick b 12 8) × (pick b 12 8 ≤ 12)
+size-by true = (omega arith, omega arith)
+size-by false = (omega arith, omega arith)
+
+pub size-between : (explicit : Bool) (vr : ℕ) → (8 ≤ headerSize explicit vr) × (headerSize explicit vr ≤ 12)
+unfolding headerSize
+size-between explicit vr = size-by (both explicit (eqb (formOf vr) 12))
+
+pub item-length : (size : ℕ) → length (itemHeader size) ≡ 8
+unfolding itemHeader
+item-length size = simp (length-append, tag-length, octets-length)
+
+pub padded-length : (vr : ℕ) (bytes : List ℕ) → length (padded vr bytes) ≡ length bytes + length bytes % 2
+unfolding padded
+padded-length vr bytes = simp (length-append, octets-length)
+
+pub padded-even : (vr : ℕ) (bytes : List ℕ) → length (padded vr bytes) % 2 ≡ 0
+padded-even vr bytes = omega (arith, padded-length vr bytes)
+
+pub headed-length : (explicit : Bool) (tag vr : ℕ) (held : List ℕ) → length (headed explicit tag vr held) ≡ headerSize explicit vr + length held
+headed-length explicit tag vr held = simp (length-append, header-length)
+
+pub element-length : (explicit : Bool) (tag vr : ℕ) (bytes : List ℕ) → length (element explicit tag vr bytes) ≡ headerSize explicit vr + (length bytes + length bytes % 2)
+unfolding element
+element-length explicit tag vr bytes = headed-length explicit tag vr (padded vr bytes) ∙ ap (λ (n : ℕ). headerSize explicit vr + n) (padded-length vr bytes)
+
+-- the value is a number of an even number of bytes
+pub number-length : (explicit : Bool) (tag vr width x : ℕ) → width % 2 ≡ 0 → length (element explicit tag vr (octets width x)) ≡ headerSize explicit vr + width
+number-length explicit tag vr width x e = element-length explicit tag vr (octets width x) ∙ rw (octets-length width x, e) (omega arith)

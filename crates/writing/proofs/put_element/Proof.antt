@@ -1,0 +1,58 @@
+use Prim.Native.Nat.{_+_, _%_}
+use mathlib.Core.Path.{_≡_, ap, _∙_}
+use denote.Ref.{now}
+use native.Mathlib.Omega.{arith}
+use lib.ListN.{length}
+use Rattle.octets.specs.Octets.{octets}
+use Rattle.writing.specs.Bytes.{padding, header}
+use Rattle.writing.proofs.Sizes.{header-length, element-length}
+use Rattle.writing.proofs.Chain.{laid-next-two, element-parts}
+use borrow.Author.Needs.{needs}
+use Rattle.writing.proofs.put_element.Statement.{statement}
+use Rattle.writing.proofs.put_element.Tie as tie
+
+put-header-requires : tie.Need-put-header-requires
+put-header-requires c κs = let a = c .before .before .before .args in let n = length (now (a .bytes)) in
+    omega (arith, header-length (a .explicit) (a .tag) (a .vr) (n + n % 2), element-length (a .explicit) (a .tag) (a .vr) (now (a .bytes)))
+
+put-requires : tie.Need-put-requires
+put-requires c κs = let a = c .before .before .before .before .before .before .before .args in let n = length (now (a .bytes)) in
+    omega (arith, header-length (a .explicit) (a .tag) (a .vr) (n + n % 2), element-length (a .explicit) (a .tag) (a .vr) (now (a .bytes)))
+
+add-put-number : tie.Need-add-put-number
+add-put-number c = let a = c .before .before .before .before .before .before .before .before .before .before .before .args in let n = length (now (a .bytes)) in
+    let h = header-length (a .explicit) (a .tag) (a .vr) (n + n % 2) in
+    let l = element-length (a .explicit) (a .tag) (a .vr) (now (a .bytes)) in
+    search needs
+
+put-number-requires : tie.Need-put-number-requires
+put-number-requires c κs = let a = c .before .before .before .before .before .before .before .before .before .before .before .before .args in let n = length (now (a .bytes)) in
+    omega (arith, header-length (a .explicit) (a .tag) (a .vr) (n + n % 2), element-length (a .explicit) (a .tag) (a .vr) (now (a .bytes)))
+
+add-result : tie.Need-add-result
+add-result c = let a = c .before .before .before .before .before .before .before .before .before .before .before .before .before .before .before .args in let n = length (now (a .bytes)) in
+    let h = header-length (a .explicit) (a .tag) (a .vr) (n + n % 2) in
+    let l = element-length (a .explicit) (a .tag) (a .vr) (now (a .bytes)) in
+    search needs
+
+add-result-2 : tie.Need-add-result-2
+add-result-2 c = let a = c .before .before .before .before .before .before .before .before .before .before .before .before .before .before .before .args in let n = length (now (a .bytes)) in
+    let h = header-length (a .explicit) (a .tag) (a .vr) (n + n % 2) in
+    let l = element-length (a .explicit) (a .tag) (a .vr) (now (a .bytes)) in
+    search needs
+
+returns : tie.Need-returns
+returns c = let a = c .before .before .before .before .before .before .before .before .before .before .before .before .before .before .before .args in let n = length (now (a .bytes)) in
+    let h = header-length (a .explicit) (a .tag) (a .vr) (n + n % 2) in
+    let l = element-length (a .explicit) (a .tag) (a .vr) (now (a .bytes)) in
+    let from = c .before .before .before .before .before .before .before .before .before .before .before .put-header .result in (
+      rw (element-parts (a .explicit) (a .tag) (a .vr) (now (a .bytes)))
+          (laid-next-two (now (a .out)) _ _ _ (header (a .explicit) (a .tag) (a .vr) (n + n % 2)) (now (a .bytes)) (octets (n % 2) (padding (a .vr)))
+          (a .at) from (from + n) (omega arith) (c .before .before .before .before .before .before .before .before .before .before .before .put-header .ensures .1) (omega arith)
+          (c .before .before .before .before .before .before .before .before .before .before .before .put-header .ensures .0) (c .before .before .before .before .before .before .before .put .ensures) (rw (← (c .before .before .before .pad .ensures)) (c .before .before .put-number .ensures))),
+      omega arith,
+    )
+
+pub put-element-spec : {M : Type 1} → statement M
+put-element-spec =
+    tie.close (tie.spec (λ c. search needs) put-header-requires put-requires add-put-number (λ c κs. search needs) put-number-requires add-result add-result-2 (λ c. search needs) returns)

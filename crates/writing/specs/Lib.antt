@@ -1,0 +1,4 @@
+pub mod Tree
+pub mod Bytes
+pub mod Fit
+pub mod Place
