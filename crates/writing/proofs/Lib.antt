@@ -1,3 +1,8 @@
--- The laws of writing.
+-- The laws of writing: how long what is written is, and that the reader reads it back.
 pub mod Sizes
 mod Chain
+pub mod Allowed
+pub mod HeaderBack
+pub mod ListBack
+pub mod FindBack
+pub mod ItemsBack
