@@ -6,3 +6,4 @@ pub mod HeaderBack
 pub mod ListBack
 pub mod FindBack
 pub mod ItemsBack
+mod Examples

@@ -12,8 +12,9 @@ use lib.ListN.{length, length-append}
 use Rattle.choice.specs.Pick.{pick, both}
 use Rattle.octets.specs.Octets.{octets}
 use Rattle.octets.proofs.Numbers.{octets-length}
-use Rattle.headers.specs.Table.{formOf}
-use Rattle.writing.specs.Bytes.{padding, padded, tagOctets, vrOctets, headerSize, header, itemHeader, headed, element}
+use Rattle.headers.specs.Table.{SQ, formOf}
+use Rattle.writing.specs.Bytes.{padding, padded, tagOctets, vrOctets, headerSize, header, itemHeader, headed, element, written, writtenItems}
+use Rattle.writing.specs.Tree.{Elements, value, sequence, Items, item}
 
 pub tag-length : (tag : ℕ) → length (tagOctets tag) ≡ 4
 unfolding tagOctets
@@ -84,3 +85,18 @@ element-length explicit tag vr bytes = headed-length explicit tag vr (padded vr 
 -- the value is a number of an even number of bytes
 pub number-length : (explicit : Bool) (tag vr width x : ℕ) → width % 2 ≡ 0 → length (element explicit tag vr (octets width x)) ≡ headerSize explicit vr + width
 number-length explicit tag vr width x e = element-length explicit tag vr (octets width x) ∙ rw (octets-length width x, e) (omega arith)
+
+-- a tree's length, node by node
+module _ (explicit : Bool) (tag : ℕ) (more : Elements) where
+  pub value-length : (vr : ℕ) (bytes : List ℕ) → length (written explicit (value tag vr bytes more)) ≡ headerSize explicit vr + (length bytes + length bytes % 2) + length (written explicit more)
+  unfolding written
+  value-length vr bytes = rw (length-append (element explicit tag vr bytes) (written explicit more), element-length explicit tag vr bytes)
+
+  pub sequence-length : (items : Items) → length (written explicit (sequence tag items more)) ≡ headerSize explicit SQ + length (writtenItems explicit items) + length (written explicit more)
+  unfolding written
+  sequence-length items = rw (length-append (headed explicit tag SQ (writtenItems explicit items)) (written explicit more), headed-length explicit tag SQ (writtenItems explicit items))
+
+pub items-length : (explicit : Bool) (list : Elements) (more : Items) → length (writtenItems explicit (item list more)) ≡ 8 + length (written explicit list) + length (writtenItems explicit more)
+unfolding written
+items-length explicit list more =
+    rw (length-append (itemHeader (length (written explicit list)) ++ written explicit list) (writtenItems explicit more), length-append (itemHeader (length (written explicit list))) (written explicit list), item-length (length (written explicit list)))
