@@ -1,17 +1,17 @@
 -- What a tag and a VR that may be written tell of how the reader takes them.
 -- Assumes nothing.
 use Prim.Native.Nat.{ℕ, _<_, _≤_, _/_}
-use mathlib.Core.Path.{_≡_, refl, sym, ap, _∙_}
+use mathlib.Core.Path.{_≡_, refl, ap}
 use mathlib.Core.Bool.{Bool, true, false}
 use mathlib.Core.List.{List, [], _∷_}
 use native.Mathlib.Omega.{arith}
 use lib.Dec.{ltb, eqb}
-use borrow.Author.Tests.{ltb-true, eqb-true, eqb-false, ne-eqb}
+use borrow.Author.Tests.{ltb-true, eqb-true, ne-eqb}
 use Rattle.choice.specs.declared.Row.{Row}
 use Rattle.choice.specs.Pick.{pick, both, not}
 use Rattle.choice.specs.Table.{lookup}
-use Rattle.choice.proofs.Picks.{pick-cases, both-true, not-true, not-false, clash}
-use Rattle.headers.specs.Table.{SQ, OB, forms, formOf, namedVr, implicitVr, differs, undefined}
+use Rattle.choice.proofs.Picks.{pick-cases, both-true, not-true, clash}
+use Rattle.headers.specs.Table.{SQ, forms, formOf, namedVr, implicitVr, differs, undefined}
 use Rattle.writing.specs.Fit.{allowed, limit}
 
 module _ (tag vr : ℕ) (a : allowed tag vr ≡ true) where

@@ -5,15 +5,13 @@ use mathlib.Core.Path.{_≡_, ap, _∙_}
 use mathlib.Core.Bool.{Bool, true, false}
 use mathlib.Core.List.{List, _++_, append-nil}
 use native.Mathlib.Omega.{arith}
-use lib.Dec.{eqb}
 use lib.ListN.{length, length-append}
 use borrow.Author.Tests.{eq-eqb, ne-eqb}
 use Rattle.octets.specs.Octets.{octets, laid}
 use Rattle.octets.proofs.Laid.{laid-then, length-laid}
 use Rattle.octets.proofs.Numbers.{octets-length}
 use Rattle.headers.specs.Table.{formOf}
-use Rattle.writing.specs.Bytes.{padding, padded, tagOctets, vrOctets, header, itemHeader, element}
-use Rattle.writing.proofs.Sizes.{tag-length, header-length}
+use Rattle.writing.specs.Bytes.{padding, padded, tagOctets, vrOctets, plain, header, element}
 
 pub laid-next : (s m o a b : List ℕ) (at p : ℕ) → at + length a ≤ length s → p ≡ at + length a → m ≡ laid s at a → o ≡ laid m p b → o ≡ laid s at (a ++ b)
 laid-next s m o a b at p h ep em eo = eo ∙ rw (em, ep) (laid-then s at a h b)
@@ -37,7 +35,7 @@ pub header-explicit : (explicit : Bool) (tag vr size : ℕ) → explicit ≡ tru
 unfolding header
 header-explicit explicit tag vr size e = rw e
 
-pub header-implicit : (explicit : Bool) (tag vr size : ℕ) → explicit ≡ false → header explicit tag vr size ≡ tagOctets tag ++ octets 4 size
+pub header-implicit : (explicit : Bool) (tag vr size : ℕ) → explicit ≡ false → header explicit tag vr size ≡ plain tag size
 unfolding header
 header-implicit explicit tag vr size e = rw e
 

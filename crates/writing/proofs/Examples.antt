@@ -6,17 +6,15 @@ use mathlib.Core.Bool.{Bool, true, false}
 use mathlib.Core.List.{List, [], _∷_}
 use native.Mathlib.Omega.{arith}
 use borrow.Author.Needs.{needs}
-use lib.Dec.{eqb}
 use lib.ListN.{length}
-use Rattle.choice.specs.Pick.{pick}
 use Rattle.octets.specs.Octets.{octets}
 use Rattle.headers.specs.Table.{IS, SQ, UI, UL, US, formOf, namedVr, differs}
 use Rattle.elements.specs.declared.Read.the-variants.{Past}
 use Rattle.elements.specs.Reader.{dataSet}
 use Rattle.writing.specs.Tree.{Elements, noElements, value, sequence, Items, noItems, item}
-use Rattle.writing.specs.Bytes.{padded, tagOctets, vrOctets, header, element, written, writtenItems}
+use Rattle.writing.specs.Bytes.{padded, tagOctets, vrOctets, plain, header, element, written, writtenItems}
 use Rattle.writing.specs.Fit.{allowed, limit, HeaderFits, Fit, FitItems}
-use Rattle.writing.proofs.Sizes.{size-between, padded-length, value-length, items-length}
+use Rattle.writing.proofs.Sizes.{size-between, padded-length, value-length, sequence-length, items-length}
 use Rattle.writing.proofs.Allowed.{below-limit}
 use Rattle.writing.proofs.ListBack.{data-set-back}
 
@@ -24,7 +22,7 @@ copies : Elements
 copies = value 0x2000_0010 IS (0x32 ∷ []) noElements
 
 P1 : written false copies ≡ 0x00 ∷ 0x20 ∷ 0x10 ∷ 0x00 ∷ 0x02 ∷ 0x00 ∷ 0x00 ∷ 0x00 ∷ 0x32 ∷ 0x20 ∷ []
-unfolding copies padded tagOctets header element written octets
+unfolding copies padded tagOctets plain header element written octets
 P1 = refl
 
 P2 : written true copies ≡ 0x00 ∷ 0x20 ∷ 0x10 ∷ 0x00 ∷ 0x49 ∷ 0x53 ∷ 0x02 ∷ 0x00 ∷ 0x32 ∷ 0x20 ∷ []
@@ -49,7 +47,7 @@ P12 : written false echoed
     ∷ 0x00 ∷ 0x00 ∷ 0x00 ∷ 0x08 ∷ 0x02 ∷ 0x00 ∷ 0x00 ∷ 0x00 ∷ 0x01 ∷ 0x01
     ∷ 0x00 ∷ 0x00 ∷ 0x00 ∷ 0x09 ∷ 0x02 ∷ 0x00 ∷ 0x00 ∷ 0x00 ∷ 0x00 ∷ 0x00
     ∷ []
-unfolding echoed padded tagOctets header element written octets
+unfolding echoed padded tagOctets plain header element written octets
 P12 = refl
 
 -- the reader takes it whole: 78 bytes
@@ -58,7 +56,7 @@ unfolding echoed padded octets allowed limit formOf namedVr differs
 echoed-fits = search needs
 
 echoed-read : dataSet (written false echoed) false ≡ Past 78
-unfolding echoed padded tagOctets header element written octets
+unfolding echoed padded tagOctets plain header element written octets
 echoed-read = data-set-back false echoed echoed-fits
 
 -- Referenced Image Box Sequence: an item for each of the image boxes, with their class and its own UID
@@ -110,3 +108,9 @@ module _ (explicit : Bool) (class : List ℕ) (h : length class ≤ 64) where
     boxes-fit 3 uids k,
     tt,
   )
+
+  -- and it fits the answer's buffer
+  referenced-short : (uids : List (List ℕ)) → Short uids → length uids ≤ 36 → length (written explicit (referenced class uids)) ≤ 8192
+  unfolding written
+  referenced-short uids k n =
+      omega (arith, sequence-length explicit 0x2010_0510 noElements (boxes class uids), boxes-length uids k, size-between explicit SQ .1)

@@ -1,9 +1,9 @@
 -- What was written is found where it was written: the values and sequences of a list, and the items of a sequence.
 -- Assumes nothing.
-use Prim.Native.Nat.{ℕ, suc, _+_, _-_, _<_, _≤_, _%_}
+use Prim.Native.Nat.{ℕ, _+_, _-_, _≤_}
 use mathlib.Core.Path.{_≡_, refl, sym, ap, _∙_, subst}
 use mathlib.Core.Bool.{Bool, true, false}
-use mathlib.Core.List.{List, [], _∷_, _++_}
+use mathlib.Core.List.{List, [], _++_}
 use native.Mathlib.Omega.{arith}
 use lib.Dec.{eqb}
 use lib.ListN.{length}
@@ -14,30 +14,29 @@ use Rattle.octets.proofs.Laid.{Stands}
 use Rattle.headers.specs.declared.Part.{Part}
 use Rattle.headers.specs.declared.Inside.{Inside}
 use Rattle.headers.specs.declared.Head.{Head}
-use Rattle.headers.specs.declared.Head.the-variants as head
 use Rattle.headers.specs.Table.{SQ}
 use Rattle.headers.specs.Header.{tagAt, headAt}
 use Rattle.elements.specs.declared.Read.the-variants.{Past}
 use Rattle.elements.specs.declared.Found.{Found}
-use Rattle.elements.specs.declared.Found.the-variants.{Missing, Value, Sequence}
-use Rattle.elements.specs.Reader.{Mark, elementAt}
-use Rattle.elements.specs.Find.{elementsFrom, found, among, findAt, itemsOf, itemsAt}
-use Rattle.elements.proofs.Laws.{find-done, find-here, find-more, items-of-done, items-of-more}
-use Rattle.writing.specs.Tree.{Elements, noElements, value, sequence, Items, noItems, item}
+use Rattle.elements.specs.declared.Found.the-variants.{Value, Sequence}
+use Rattle.elements.specs.Reader.{itemEnd, elementAt}
+use Rattle.elements.specs.Find.{elementsFrom, found, among, findAt}
+use Rattle.elements.proofs.Laws.{find-done, find-here, find-more}
+use Rattle.writing.specs.Tree.{Elements, noElements, value, sequence, Items, noItems}
 use Rattle.writing.specs.Bytes.{padded, headerSize, headed, element, written, writtenItems}
 use Rattle.writing.specs.Fit.{HeaderFits, Fit, FitItems}
 use Rattle.writing.specs.Place.{span, placeIn, valueUnder, itemsUnder}
 use Rattle.writing.proofs.Sizes.{size-between, padded-even}
-use Rattle.writing.proofs.HeaderBack.{Back, header-back, value-head, sequence-head}
-use Rattle.writing.proofs.ListBack.{items-even, not-yet, ended, header-stands, held-stands, more-stands, stop-after, value-past, sequence-past, items-back}
+use Rattle.writing.proofs.HeaderBack.{header-back, value-head, sequence-head}
+use Rattle.writing.proofs.ListBack.{between, mark, items-even, not-yet, ended, header-stands, held-stands, more-stands, stop-after, value-past, sequence-past, items-back}
 
 -- what the reader finds from an element on: that element, or what it finds behind it
 step : (s : List ℕ) (explicit : Bool) (room from stop at floor t vr tag : ℕ) (held more : List ℕ) (d : Head) → HeaderFits explicit floor t vr (length held)
     → Stands s at (headed explicit t vr held ++ more) → at + headerSize explicit vr + length held ≤ stop
     → headAt s explicit stop at floor ≡ d
     → elementAt s explicit room stop at floor ≡ Past (at + headerSize explicit vr + length held)
-    → among s explicit stop tag (elementsFrom s explicit room (record { from = from; stop = stop; loose = false }) (record { at = at; floor = floor }))
-    ≡ pick (eqb t tag) (found d) (among s explicit stop tag (elementsFrom s explicit room (record { from = from; stop = stop; loose = false }) (record { at = at + headerSize explicit vr + length held; floor = t + 1 })))
+    → among s explicit stop tag (elementsFrom s explicit room (between from stop) (mark at floor))
+    ≡ pick (eqb t tag) (found d) (among s explicit stop tag (elementsFrom s explicit room (between from stop) (mark (at + headerSize explicit vr + length held) (t + 1))))
 step s explicit room from stop at floor t vr tag held more d f e r h p = by (eqb t tag) refl
   where
     k : 8 ≤ headerSize explicit vr
@@ -47,20 +46,20 @@ step s explicit room from stop at floor t vr tag held more d f e r h p = by (eqb
     tag-is = header-back s explicit at t vr (length held) (f .1) (f .2) (header-stands s explicit at t vr held more e) .tag-is
 
     by : (b : Bool) → eqb t tag ≡ b
-        → among s explicit stop tag (elementsFrom s explicit room (record { from = from; stop = stop; loose = false }) (record { at = at; floor = floor }))
-        ≡ pick b (found d) (among s explicit stop tag (elementsFrom s explicit room (record { from = from; stop = stop; loose = false }) (record { at = at + headerSize explicit vr + length held; floor = t + 1 })))
+        → among s explicit stop tag (elementsFrom s explicit room (between from stop) (mark at floor))
+        ≡ pick b (found d) (among s explicit stop tag (elementsFrom s explicit room (between from stop) (mark (at + headerSize explicit vr + length held) (t + 1))))
     by true c =
-        find-here s explicit room (record { from = from; stop = stop; loose = false }) at (omega arith) floor tag (not-yet s 0xFFFE_E00D from stop at (omega (arith, k))) p (tag-is ∙ eqb-true t tag c) ∙ rw h
+        find-here s explicit room (between from stop) at (omega arith) floor tag (not-yet s itemEnd from stop at (omega (arith, k))) p (tag-is ∙ eqb-true t tag c) ∙ rw h
     by false c =
-        find-more s explicit room (record { from = from; stop = stop; loose = false }) at (omega arith) floor tag (not-yet s 0xFFFE_E00D from stop at (omega (arith, k))) p (λ z. eqb-false t tag c (sym tag-is ∙ z)) ∙ rw tag-is
+        find-more s explicit room (between from stop) at (omega arith) floor tag (not-yet s itemEnd from stop at (omega (arith, k))) p (λ z. eqb-false t tag c (sym tag-is ∙ z)) ∙ rw tag-is
 
 -- the rest of a list, from a place on
 find-from : (elements : Elements) (s : List ℕ) (explicit : Bool) (room from stop at floor tag : ℕ) → Fit explicit room floor elements → stop ≡ at + length (written explicit elements) → Stands s at (written explicit elements)
-    → among s explicit stop tag (elementsFrom s explicit room (record { from = from; stop = stop; loose = false }) (record { at = at; floor = floor })) ≡ placeIn explicit at tag elements
+    → among s explicit stop tag (elementsFrom s explicit room (between from stop) (mark at floor)) ≡ placeIn explicit at tag elements
 unfolding written element placeIn
 find-from noElements s explicit room from stop at floor tag f n e =
     let z : stop ≡ at = omega arith in
-    rw z (find-done s explicit room (record { from = from; stop = at; loose = false }) at (omega arith) floor tag (ended s 0xFFFE_E00D from at))
+    rw z (find-done s explicit room (between from at) at (omega arith) floor tag (ended s itemEnd from at))
 find-from (value t vr bytes more) s explicit room from stop at floor tag f n e =
     let held = padded vr bytes in
     let rest = written explicit more in

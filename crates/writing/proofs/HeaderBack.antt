@@ -1,23 +1,22 @@
 -- A header that was written is read back, in both syntaxes.
 -- Assumes nothing.
-use Prim.Native.Nat.{ℕ, _+_, _*_, _-_, _<_, _≤_, _/_, _%_, _^_}
-use mathlib.Core.Path.{_≡_, refl, sym, ap, _∙_, subst}
+use Prim.Native.Nat.{ℕ, _+_, _-_, _<_, _≤_, _/_, _%_}
+use mathlib.Core.Path.{_≡_, refl, ap, _∙_, subst}
 use mathlib.Core.Bool.{Bool, true, false}
-use mathlib.Core.List.{List, [], _∷_, _++_}
+use mathlib.Core.List.{List, _++_}
 use native.Mathlib.Omega.{arith}
-use lib.Dec.{ltb, eqb}
+use lib.Dec.{eqb}
 use lib.ListN.{length}
-use borrow.Author.Tests.{le-ltb, ne-eqb, eq-eqb}
-use Rattle.choice.specs.Pick.{pick, both, not}
+use borrow.Author.Tests.{le-ltb, ne-eqb}
+use Rattle.choice.specs.Pick.{pick}
 use Rattle.choice.proofs.Picks.{first-kept}
 use Rattle.octets.specs.Octets.{octets, numberAt}
 use Rattle.octets.proofs.Laid.{Stands, stands-first, stands-second}
 use Rattle.octets.proofs.Numbers.{octets-length, number-back}
-use Rattle.headers.specs.declared.Head.{Head}
 use Rattle.headers.specs.declared.Head.the-variants.{Fault, Value, Nest}
-use Rattle.headers.specs.Table.{SQ, formOf, namedVr, implicitVr, differs, undefined}
+use Rattle.headers.specs.Table.{SQ, formOf, namedVr, undefined}
 use Rattle.headers.specs.Header.{tagAt, sizeAt, vrAt, lengthAt, vrWrong, content, lengthRules, lengthHead, elementRules, headAt, itemRules, itemHeadAt}
-use Rattle.writing.specs.Bytes.{tagOctets, vrOctets, headerSize, header, itemHeader}
+use Rattle.writing.specs.Bytes.{tagOctets, vrOctets, headerSize, plain, header, itemHeader}
 use Rattle.writing.specs.Fit.{allowed, limit, HeaderFits}
 use Rattle.writing.specs.Place.{span}
 use Rattle.writing.proofs.Sizes.{tag-length}
@@ -48,7 +47,7 @@ pub record Back (s : List ℕ) (explicit : Bool) (at tag vr size : ℕ) : Type 0
   pub right : vrWrong s explicit at ≡ false
 
 implicit-back : (s : List ℕ) (at tag vr size : ℕ) → allowed tag vr ≡ true → size < limit false vr → Stands s at (header false tag vr size) → Back s false at tag vr size
-unfolding header headerSize sizeAt vrAt lengthAt vrWrong limit
+unfolding plain header headerSize sizeAt vrAt lengthAt vrWrong limit
 implicit-back s at tag vr size a l e =
     let t = stands-first s at (tagOctets tag) (octets 4 size) e in
     let n = number-back 4 size s (at + 4) (omega arith) (behind s at 4 (at + 4) (tagOctets tag) (octets 4 size) (tag-length tag) refl e) in
@@ -140,7 +139,7 @@ sequence-head s explicit end at floor tag size f v r e q = head-taken s explicit
 
 -- where the header of an item was written, the reader finds its list behind it
 pub item-head-back : (s : List ℕ) (end at size : ℕ) → size < 0xFFFF_FFFF → size % 2 ≡ 0 → at + 8 + size ≤ end → Stands s at (itemHeader size) → itemHeadAt s end at ≡ Nest (span (at + 8) size)
-unfolding itemHeadAt itemHeader
+unfolding itemHeadAt plain
 item-head-back s end at size d v r e =
     let t = tag-back s at 0xFFFE_E000 (omega arith) (stands-first s at (tagOctets 0xFFFE_E000) (octets 4 size) e) in
     let n = number-back 4 size s (at + 4) (omega arith) (behind s at 4 (at + 4) (tagOctets 0xFFFE_E000) (octets 4 size) (tag-length 0xFFFE_E000) refl e) in

@@ -1,24 +1,25 @@
 -- The items of a sequence that was written are counted as they were written, and the list of the only one is found.
 -- Assumes nothing.
-use Prim.Native.Nat.{ℕ, suc, _+_, _-_, _<_, _≤_, _%_}
-use mathlib.Core.Path.{_≡_, refl, sym, ap, _∙_}
-use mathlib.Core.Bool.{Bool, false}
-use mathlib.Core.List.{List, [], _∷_, _++_}
+use Prim.Native.Nat.{ℕ, suc, _+_, _-_}
+use mathlib.Core.Path.{_≡_, refl, ap, _∙_}
+use mathlib.Core.Bool.{Bool}
+use mathlib.Core.List.{List, [], _∷_}
 use native.Mathlib.Omega.{arith}
 use lib.ListN.{length}
 use Rattle.octets.proofs.Laid.{Stands}
 use Rattle.headers.specs.declared.Inside.{Inside}
 use Rattle.elements.specs.declared.Found.the-variants.{Sequence}
-use Rattle.elements.specs.declared.Items.the-variants.{Empty, One, Several}
-use Rattle.elements.specs.Find.{only, counted, itemsOf, itemsAt}
+use Rattle.elements.specs.declared.Items.the-variants.{Several}
+use Rattle.elements.specs.Reader.{sequenceEnd}
+use Rattle.elements.specs.Find.{counted, itemsOf, itemsAt}
 use Rattle.elements.proofs.Laws.{items-of-done, items-of-more}
 use Rattle.writing.specs.Tree.{Elements, Items, noItems, item}
 use Rattle.writing.specs.Bytes.{written, writtenItems}
 use Rattle.writing.specs.Fit.{Fit, FitItems}
 use Rattle.writing.specs.Place.{span, placeIn, itemsUnder, count, told}
 use Rattle.writing.proofs.HeaderBack.{item-head-back}
-use Rattle.writing.proofs.ListBack.{written-even, not-yet, ended, list-back, item-header-stands, list-stands, other-items-stand, stop-after-item, item-past-back}
-use Rattle.writing.proofs.FindBack.{ItemsStand, items-meant}
+use Rattle.writing.proofs.ListBack.{between, written-even, not-yet, ended, list-back, item-header-stands, list-stands, other-items-stand, stop-after-item, item-past-back}
+use Rattle.writing.proofs.FindBack.{items-meant}
 
 -- where each item stands
 places : Bool → ℕ → Items → List ℕ
@@ -31,16 +32,16 @@ places-count explicit at noItems = refl
 places-count explicit at (item list more) = ap suc (places-count explicit (at + 8 + length (written explicit list)) more)
 
 items-from : (items : Items) (s : List ℕ) (explicit : Bool) (room from stop at : ℕ) → FitItems explicit room items → stop ≡ at + length (writtenItems explicit items) → Stands s at (writtenItems explicit items)
-    → itemsOf s explicit room (record { from = from; stop = stop; loose = false }) at ≡ places explicit at items
+    → itemsOf s explicit room (between from stop) at ≡ places explicit at items
 unfolding written places
 items-from noItems s explicit room from stop at f n e =
     let z : stop ≡ at = omega arith in
-    rw z (items-of-done s explicit room (record { from = from; stop = at; loose = false }) at (omega arith) (ended s 0xFFFE_E0DD from at))
+    rw z (items-of-done s explicit room (between from at) at (omega arith) (ended s sequenceEnd from at))
 items-from (item list more) s explicit room from stop at f n e =
     let held = written explicit list in
     let rest = writtenItems explicit more in
     let k = stop-after-item stop at held rest n in
-    items-of-more s explicit room (record { from = from; stop = stop; loose = false }) at (omega arith) (not-yet s 0xFFFE_E0DD from stop at (omega arith))
+    items-of-more s explicit room (between from stop) at (omega arith) (not-yet s sequenceEnd from stop at (omega arith))
     (item-past-back s explicit room stop at held rest (f .0) (written-even explicit list) e (omega arith)
     (list-back list s explicit room (at + 8) (at + 8 + length held) (at + 8) 0 (f .1) refl (list-stands s at held rest e)))
     ∙ ap (λ (l : List ℕ). at ∷ l) (items-from more s explicit room from stop (at + 8 + length held) (f .2) k (other-items-stand s at held rest e))

@@ -1,9 +1,9 @@
 -- The reader takes what was written, to its end: the elements of a list and the items of a sequence, in both syntaxes.
 -- Assumes nothing.
 use Prim.Native.Nat.{ℕ, _+_, _-_, _<_, _≤_, _%_}
-use mathlib.Core.Path.{_≡_, refl, sym, ap, _∙_, subst}
-use mathlib.Core.Bool.{Bool, true, false}
-use mathlib.Core.List.{List, [], _∷_, _++_}
+use mathlib.Core.Path.{_≡_, refl, _∙_}
+use mathlib.Core.Bool.{Bool, false}
+use mathlib.Core.List.{List, _++_}
 use native.Mathlib.Nat.{add-assoc}
 use native.Mathlib.Omega.{arith}
 use lib.ListN.{length, length-append}
@@ -14,19 +14,18 @@ use Rattle.choice.proofs.Picks.{pick-cases}
 use borrow.Author.Tests.{lt-ltb, le-ltb}
 use Rattle.octets.proofs.Laid.{Stands, stands-first, stands-second}
 use Rattle.headers.specs.declared.Inside.{Inside}
-use Rattle.headers.specs.declared.Head.the-variants.{Value, Nest}
 use Rattle.headers.specs.declared.Close.the-variants.{Here, Not}
 use Rattle.headers.specs.Table.{SQ, formOf, namedVr}
-use Rattle.headers.specs.Header.{tagAt, closeAt}
+use Rattle.headers.specs.Header.{closeAt}
 use Rattle.elements.specs.declared.Read.the-variants.{Past}
-use Rattle.elements.specs.Reader.{Mark, listFrom, itemsFrom, elementAt, listAt, itemAt, dataSet}
+use Rattle.elements.specs.Reader.{itemEnd, sequenceEnd, Mark, listFrom, itemsFrom, elementAt, listAt, itemAt, dataSet}
 use Rattle.elements.proofs.Laws.{element-value, element-nest, item-nest, items-done, items-more, list-done, list-more}
 use Rattle.writing.specs.Tree.{Elements, noElements, value, sequence, Items, noItems, item}
 use Rattle.writing.specs.Bytes.{padded, headerSize, header, itemHeader, headed, element, written, writtenItems}
 use Rattle.writing.specs.Fit.{HeaderFits, Fit, FitItems}
 use Rattle.writing.specs.Place.{span}
 use Rattle.writing.proofs.Sizes.{header-length, size-between, headed-length, padded-even, item-length}
-use Rattle.writing.proofs.HeaderBack.{Back, header-back, value-head, sequence-head, item-head-back}
+use Rattle.writing.proofs.HeaderBack.{header-back, value-head, sequence-head, item-head-back}
 
 -- Lengths are even.
 
@@ -57,13 +56,21 @@ mutual
       (even (itemHeader (length (written explicit list))) (written explicit list) (omega (arith, item-length (length (written explicit list)))) (written-even explicit list))
       (items-even explicit more)
 
+-- a list or a sequence of defined length
+abbrev pub between : ℕ → ℕ → Inside
+between from stop = record { from = from; stop = stop; loose = false }
+
+-- where the walk of a list stands
+abbrev pub mark : ℕ → ℕ → Mark
+mark at floor = record { at = at; floor = floor }
+
 -- Where a list of defined length ends.
 
-pub not-yet : (s : List ℕ) (mark from stop at : ℕ) → at < stop → closeAt s mark (record { from = from; stop = stop; loose = false }) at ≡ Not
+pub not-yet : (s : List ℕ) (mark from stop at : ℕ) → at < stop → closeAt s mark (between from stop) at ≡ Not
 unfolding closeAt
 not-yet s mark from stop at h = rw (lt-ltb at stop h)
 
-pub ended : (s : List ℕ) (mark from at : ℕ) → closeAt s mark (record { from = from; stop = at; loose = false }) at ≡ Here at
+pub ended : (s : List ℕ) (mark from at : ℕ) → closeAt s mark (between from at) at ≡ Here at
 unfolding closeAt
 ended s mark from at = rw (le-ltb at at (omega arith))
 
@@ -105,11 +112,11 @@ module _ (s : List ℕ) (explicit : Bool) (room stop at floor tag : ℕ) where
 on : (s : List ℕ) (explicit : Bool) (room from stop at floor tag vr : ℕ) (held more : List ℕ) → HeaderFits explicit floor tag vr (length held)
     → Stands s at (headed explicit tag vr held ++ more) → at + headerSize explicit vr + length held ≤ stop
     → elementAt s explicit room stop at floor ≡ Past (at + headerSize explicit vr + length held)
-    → listFrom (elementAt s explicit room) s (record { from = from; stop = stop; loose = false }) (record { at = at; floor = floor })
-    ≡ listFrom (elementAt s explicit room) s (record { from = from; stop = stop; loose = false }) (record { at = at + headerSize explicit vr + length held; floor = tag + 1 })
+    → listFrom (elementAt s explicit room) s (between from stop) (mark at floor)
+    ≡ listFrom (elementAt s explicit room) s (between from stop) (mark (at + headerSize explicit vr + length held) (tag + 1))
 on s explicit room from stop at floor tag vr held more f e r p =
     let k = size-between explicit vr in
-    list-more s explicit room (record { from = from; stop = stop; loose = false }) at (omega arith) floor (not-yet s 0xFFFE_E00D from stop at (omega arith)) p
+    list-more s explicit room (between from stop) at (omega arith) floor (not-yet s itemEnd from stop at (omega arith)) p
     ∙ rw (header-back s explicit at tag vr (length held) (f .1) (f .2) (header-stands s explicit at tag vr held more e) .tag-is)
 
 -- One item: its list stands behind the header, and the other items behind that.
@@ -131,7 +138,7 @@ stop-after-item stop at list more e = e ∙ rw (length-append (itemHeader (lengt
 -- an item is passed over, where its list is
 pub item-past-back : (s : List ℕ) (explicit : Bool) (room stop at : ℕ) (list more : List ℕ) → length list < 0xFFFF_FFFF → length list % 2 ≡ 0
     → Stands s at ((itemHeader (length list) ++ list) ++ more) → at + 8 + length list ≤ stop
-    → listFrom (elementAt s explicit room) s (span (at + 8) (length list)) (record { at = at + 8; floor = 0 }) ≡ Past (at + 8 + length list)
+    → listFrom (elementAt s explicit room) s (span (at + 8) (length list)) (mark (at + 8) 0) ≡ Past (at + 8 + length list)
     → itemAt s explicit room stop at ≡ Past (at + 8 + length list)
 unfolding listAt
 item-past-back s explicit room stop at list more d v e r p =
@@ -142,10 +149,10 @@ mutual
 
   -- the rest of a list, from a place on
   pub list-back : (elements : Elements) (s : List ℕ) (explicit : Bool) (room from stop at floor : ℕ) → Fit explicit room floor elements → stop ≡ at + length (written explicit elements) → Stands s at (written explicit elements)
-      → listFrom (elementAt s explicit room) s (record { from = from; stop = stop; loose = false }) (record { at = at; floor = floor }) ≡ Past stop
+      → listFrom (elementAt s explicit room) s (between from stop) (mark at floor) ≡ Past stop
   list-back noElements s explicit room from stop at floor f n e =
       let z : stop ≡ at = omega arith in
-      rw z (list-done s explicit room (record { from = from; stop = at; loose = false }) at (omega arith) floor (ended s 0xFFFE_E00D from at))
+      rw z (list-done s explicit room (between from at) at (omega arith) floor (ended s itemEnd from at))
   list-back (value tag vr bytes more) s explicit room from stop at floor f n e =
       let held = padded vr bytes in
       let rest = written explicit more in
@@ -164,15 +171,15 @@ mutual
 
   -- the rest of a sequence's items
   pub items-back : (items : Items) (s : List ℕ) (explicit : Bool) (room from stop at : ℕ) → FitItems explicit room items → stop ≡ at + length (writtenItems explicit items) → Stands s at (writtenItems explicit items)
-      → itemsFrom (elementAt s explicit room) s (record { from = from; stop = stop; loose = false }) at ≡ Past stop
+      → itemsFrom (elementAt s explicit room) s (between from stop) at ≡ Past stop
   items-back noItems s explicit room from stop at f n e =
       let z : stop ≡ at = omega arith in
-      rw z (items-done s explicit room (record { from = from; stop = at; loose = false }) at (omega arith) (ended s 0xFFFE_E0DD from at))
+      rw z (items-done s explicit room (between from at) at (omega arith) (ended s sequenceEnd from at))
   items-back (item list more) s explicit room from stop at f n e =
       let held = written explicit list in
       let rest = writtenItems explicit more in
       let k = stop-after-item stop at held rest n in
-      items-more s explicit room (record { from = from; stop = stop; loose = false }) at (omega arith) (not-yet s 0xFFFE_E0DD from stop at (omega arith))
+      items-more s explicit room (between from stop) at (omega arith) (not-yet s sequenceEnd from stop at (omega arith))
       (item-past-back s explicit room stop at held rest (f .0) (written-even explicit list) e (omega arith)
       (list-back list s explicit room (at + 8) (at + 8 + length held) (at + 8) 0 (f .1) refl (list-stands s at held rest e)))
       ∙ items-back more s explicit room from stop (at + 8 + length held) (f .2) k (other-items-stand s at held rest e)

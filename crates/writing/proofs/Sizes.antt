@@ -1,7 +1,7 @@
 -- How long what is written is.
 -- Assumes nothing.
-use Prim.Native.Nat.{ℕ, _+_, _≤_, _/_, _%_}
-use mathlib.Core.Path.{_≡_, refl, ap, _∙_}
+use Prim.Native.Nat.{ℕ, _+_, _≤_, _%_}
+use mathlib.Core.Path.{_≡_, ap, _∙_}
 use mathlib.Core.Bool.{Bool, true, false}
 use mathlib.Core.List.{List, _++_}
 use native.Mathlib.Omega.{arith}
@@ -13,7 +13,7 @@ use Rattle.choice.specs.Pick.{pick, both}
 use Rattle.octets.specs.Octets.{octets}
 use Rattle.octets.proofs.Numbers.{octets-length}
 use Rattle.headers.specs.Table.{SQ, formOf}
-use Rattle.writing.specs.Bytes.{padding, padded, tagOctets, vrOctets, headerSize, header, itemHeader, headed, element, written, writtenItems}
+use Rattle.writing.specs.Bytes.{padded, tagOctets, vrOctets, headerSize, plain, header, itemHeader, headed, element, written, writtenItems}
 use Rattle.writing.specs.Tree.{Elements, value, sequence, Items, item}
 
 pub tag-length : (tag : ℕ) → length (tagOctets tag) ≡ 4
@@ -37,23 +37,22 @@ vr-long-length vr size e = vr-length vr size ∙ rw (eq-eqb _ _ e)
 pub vr-short-length : (vr size : ℕ) → (formOf vr ≡ 12 → ⊥) → length (vrOctets vr size) ≡ 4
 vr-short-length vr size e = vr-length vr size ∙ rw (ne-eqb _ _ e)
 
-header-length-by : (explicit long : Bool) (tag vr size : ℕ) → length (vrOctets vr size) ≡ pick long 8 4
-    → length (tagOctets tag ++ pick explicit (vrOctets vr size) (octets 4 size)) ≡ pick (both explicit long) 12 8
-header-length-by true true tag vr size e = simp (length-append, tag-length, e)
-header-length-by true false tag vr size e = simp (length-append, tag-length, e)
-header-length-by false long tag vr size e = simp (length-append, tag-length, octets-length)
+pub plain-length : (tag size : ℕ) → length (plain tag size) ≡ 8
+unfolding plain
+plain-length tag size = simp (length-append, tag-length, octets-length)
+
+pub explicit-length : (tag vr size : ℕ) → length (header true tag vr size) ≡ 4 + length (vrOctets vr size)
+unfolding header
+explicit-length tag vr size = simp (length-append, tag-length)
+
+header-length-by : (long : Bool) (tag vr size : ℕ) → length (vrOctets vr size) ≡ pick long 8 4 → length (header true tag vr size) ≡ pick long 12 8
+header-length-by true tag vr size e = explicit-length tag vr size ∙ rw e
+header-length-by false tag vr size e = explicit-length tag vr size ∙ rw e
 
 pub header-length : (explicit : Bool) (tag vr size : ℕ) → length (header explicit tag vr size) ≡ headerSize explicit vr
 unfolding header headerSize
-header-length explicit tag vr size = header-length-by explicit (eqb (formOf vr) 12) tag vr size (vr-length vr size)
-
-pub explicit-length : (explicit : Bool) (tag vr size : ℕ) → explicit ≡ true → length (header explicit tag vr size) ≡ 4 + length (vrOctets vr size)
-unfolding header
-explicit-length explicit tag vr size e = simp (e, length-append, tag-length)
-
-pub implicit-length : (explicit : Bool) (tag vr size : ℕ) → explicit ≡ false → length (header explicit tag vr size) ≡ 8
-unfolding header
-implicit-length explicit tag vr size e = simp (e, length-append, tag-length, octets-length)
+header-length true tag vr size = header-length-by (eqb (formOf vr) 12) tag vr size (vr-length vr size)
+header-length false tag vr size = plain-length tag size
 
 -- a header has eight or twelve bytes
 size-by : (b : Bool) → (8 ≤ pick b 12 8) × (pick b 12 8 ≤ 12)
@@ -65,8 +64,7 @@ unfolding headerSize
 size-between explicit vr = size-by (both explicit (eqb (formOf vr) 12))
 
 pub item-length : (size : ℕ) → length (itemHeader size) ≡ 8
-unfolding itemHeader
-item-length size = simp (length-append, tag-length, octets-length)
+item-length size = plain-length 0xFFFE_E000 size
 
 pub padded-length : (vr : ℕ) (bytes : List ℕ) → length (padded vr bytes) ≡ length bytes + length bytes % 2
 unfolding padded

@@ -29,11 +29,16 @@ vrOctets vr size =
 unfoldable pub headerSize : Bool → ℕ → ℕ
 headerSize explicit vr = pick (both explicit (eqb (formOf vr) 12)) 12 8
 
-unfoldable pub header : Bool → ℕ → ℕ → ℕ → List ℕ
-header explicit tag vr size = tagOctets tag ++ pick explicit (vrOctets vr size) (octets 4 size)
+-- a tag and a 32-bit length
+unfoldable pub plain : ℕ → ℕ → List ℕ
+plain tag size = tagOctets tag ++ octets 4 size
 
-unfoldable pub itemHeader : ℕ → List ℕ
-itemHeader size = tagOctets 0xFFFE_E000 ++ octets 4 size
+unfoldable pub header : Bool → ℕ → ℕ → ℕ → List ℕ
+header explicit tag vr size = pick explicit (tagOctets tag ++ vrOctets vr size) (plain tag size)
+
+-- an item has no VR in either syntax
+abbrev pub itemHeader : ℕ → List ℕ
+itemHeader size = plain 0xFFFE_E000 size
 
 -- a header, and what it is the header of
 abbrev pub headed : Bool → ℕ → ℕ → List ℕ → List ℕ

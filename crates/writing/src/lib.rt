@@ -6,11 +6,11 @@ use headers::table::form_of;
 use octets::put;
 use octets::put_number;
 ghost use mathlib.Core.Path.{_≡_};
-ghost use Prim.Native.Nat.{_+_, _≤_, _<_, _%_};
+ghost use Prim.Native.Nat.{_+_, _≤_, _%_};
 ghost use lib.ListN.{length};
 ghost use Rattle.octets.specs.Octets.{octets, laid};
 ghost use Rattle.headers.specs.Table.{US, UL};
-ghost use Rattle.writing.specs.Bytes.{padding, tagOctets, vrOctets, header, itemHeader, element};
+ghost use Rattle.writing.specs.Bytes.{padding, tagOctets, vrOctets, plain, header, itemHeader, element};
 
 // The byte that makes the length of a value even.
 fn pad(vr: usize) -> u64
@@ -45,6 +45,16 @@ fn put_vr(out: &mut [u8], at: usize, vr: usize, size: usize) -> usize
     at + 4
 }
 
+// A tag and a 32-bit length: the place after it.
+fn put_plain(out: &mut [u8], at: usize, tag: usize, size: usize) -> usize
+    requires { ⌜ at + 8 ≤ length (now out) ⌝ }
+    ensures { λ r. ⌜ (now (out .exit) ≡ laid (now (out .entry)) at (plain tag size)) × (r ≡ at + length (plain tag size)) ⌝ }
+{
+    put_tag(out, at, tag);
+    put_number(out, at + 4, 4, size as u64);
+    at + 8
+}
+
 // The header of an element: the place after it.
 pub fn put_header(
     out: &mut [u8],
@@ -57,12 +67,11 @@ pub fn put_header(
     requires { ⌜ at + length (header explicit tag vr size) ≤ length (now out) ⌝ }
     ensures { λ r. ⌜ (now (out .exit) ≡ laid (now (out .entry)) at (header explicit tag vr size)) × (r ≡ at + length (header explicit tag vr size)) ⌝ }
 {
-    put_tag(out, at, tag);
     if explicit {
+        put_tag(out, at, tag);
         return put_vr(out, at + 4, vr, size);
     }
-    put_number(out, at + 4, 4, size as u64);
-    at + 8
+    put_plain(out, at, tag, size)
 }
 
 // The header of an item: the place after it.
@@ -70,9 +79,7 @@ pub fn put_item(out: &mut [u8], at: usize, size: usize) -> usize
     requires { ⌜ at + 8 ≤ length (now out) ⌝ }
     ensures { λ r. ⌜ (now (out .exit) ≡ laid (now (out .entry)) at (itemHeader size)) × (r ≡ at + length (itemHeader size)) ⌝ }
 {
-    put_tag(out, at, 0xFFFE_E000);
-    put_number(out, at + 4, 4, size as u64);
-    at + 8
+    put_plain(out, at, 0xFFFE_E000, size)
 }
 
 // An element with a value, padded to even length: the place after it.

@@ -1,5 +1,4 @@
 use borrow.Author.Tests.{eq-eqb, ne-eqb}
-use borrow.Author.Needs.{needs}
 use Rattle.writing.proofs.pad.Statement.{statement}
 use Rattle.writing.proofs.pad.Tie as tie
 

@@ -1,5 +1,4 @@
 use Prim.Native.Nat.{_+_, _%_}
-use mathlib.Core.Path.{_≡_, ap, _∙_}
 use denote.Ref.{now}
 use native.Mathlib.Omega.{arith}
 use lib.ListN.{length}

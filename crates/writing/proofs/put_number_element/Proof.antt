@@ -1,5 +1,3 @@
-use Prim.Native.Nat.{_+_}
-use mathlib.Core.Path.{_≡_}
 use denote.Ref.{now}
 use native.Mathlib.Omega.{arith}
 use Rattle.octets.specs.Octets.{octets}
