@@ -1,6 +1,6 @@
 -- What a tag and a VR that may be written tell of how the reader takes them.
 -- Assumes nothing.
-use Prim.Native.Nat.{ℕ, _<_, _≤_, _/_}
+use Prim.Native.Nat.{ℕ, _<_, _/_}
 use mathlib.Core.Path.{_≡_, refl, ap}
 use mathlib.Core.Bool.{Bool, true, false}
 use mathlib.Core.List.{List, [], _∷_}
@@ -54,14 +54,12 @@ two-bytes vr k = key-below 65536 vr forms refl k
 -- a length below the limit is defined
 pub below-undefined : (explicit : Bool) (vr size : ℕ) → size < limit explicit vr → size < 0xFFFF_FFFF
 unfolding limit
-below-undefined explicit vr size h =
-    let l : limit explicit vr ≤ 0xFFFF_FFFF = pick-cases (λ (n : ℕ). n ≤ 0xFFFF_FFFF) (both explicit (not (eqb (formOf vr) 12))) 65536 0xFFFF_FFFF (λ _. omega arith) (λ _. omega arith) in
-    omega arith
+below-undefined explicit vr size = pick-cases (λ (n : ℕ). size < n → size < 0xFFFF_FFFF) (both explicit (not (eqb (formOf vr) 12))) _ _ (λ _ h. omega arith) (λ _ h. omega arith)
 
--- a length below 65536 is below either limit
+-- a length of 16 bits is below the limit, whatever the syntax and the VR
 pub below-limit : (explicit : Bool) (vr size : ℕ) → size < 65536 → size < limit explicit vr
 unfolding limit
-below-limit explicit vr size h = pick-cases (λ (n : ℕ). size < n) (both explicit (not (eqb (formOf vr) 12))) 65536 0xFFFF_FFFF (λ _. h) (λ _. omega arith)
+below-limit explicit vr size h = pick-cases (λ (n : ℕ). size < n) (both explicit (not (eqb (formOf vr) 12))) _ _ (λ _. omega arith) (λ _. omega arith)
 
 pixels-vr : (tag : ℕ) → tag ≡ 0x7FE0_0010 → eqb (namedVr tag) SQ ≡ false
 unfolding namedVr

@@ -1,12 +1,12 @@
 -- The round trip: what fits to be written is read back as it was meant, in both syntaxes, wherever it stands.
 -- Assumes nothing.
-use Prim.Native.Nat.{ℕ, _+_, _-_}
-use mathlib.Core.Path.{_≡_}
+use Prim.Native.Nat.{ℕ, _+_, _-_, _≤_}
+use mathlib.Core.Path.{_≡_, sym, subst}
 use mathlib.Core.Bool.{Bool}
 use mathlib.Core.List.{List}
 use lib.ListN.{length}
-use Rattle.octets.specs.Octets.{part}
-use Rattle.octets.proofs.Laid.{Stands}
+use Rattle.octets.specs.Octets.{part, laid}
+use Rattle.octets.proofs.Laid.{Stands, laid-stands}
 use Rattle.headers.specs.declared.Part.{Part}
 use Rattle.headers.specs.declared.Inside.{Inside}
 use Rattle.elements.specs.declared.Read.the-variants.{Past}
@@ -41,3 +41,7 @@ round-trip s explicit room at elements f e = record {
   sequences = λ tag i. items-meant elements s explicit room at 0 tag i f e;
   items = λ tag i. found-items-told elements s explicit room at tag i f e;
 }
+
+-- the same of a list that the elements were laid over
+pub round-trip-laid : (s o : List ℕ) (explicit : Bool) (room at : ℕ) (elements : Elements) → Fit explicit room 0 elements → at + length (written explicit elements) ≤ length s → o ≡ laid s at (written explicit elements) → ReadBack o explicit room at elements
+round-trip-laid s o explicit room at elements f h e = round-trip o explicit room at elements f (subst (λ (t : List ℕ). Stands t at (written explicit elements)) (sym e) (laid-stands s at (written explicit elements) h))

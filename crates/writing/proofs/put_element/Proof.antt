@@ -4,46 +4,33 @@ use native.Mathlib.Omega.{arith}
 use lib.ListN.{length}
 use Rattle.octets.specs.Octets.{octets}
 use Rattle.writing.specs.Bytes.{padding, header}
-use Rattle.writing.proofs.Sizes.{header-length, element-length}
-use Rattle.writing.proofs.Chain.{laid-next-two, element-parts}
+use Rattle.writing.proofs.Chain.{laid-next-two, element-parts, element-room}
 use borrow.Author.Needs.{needs}
 use Rattle.writing.proofs.put_element.Statement.{statement}
 use Rattle.writing.proofs.put_element.Tie as tie
 
 put-header-requires : tie.Need-put-header-requires
-put-header-requires c κs = let a = c .before .before .before .args in let n = length (now (a .bytes)) in
-    omega (arith, header-length (a .explicit) (a .tag) (a .vr) (n + n % 2), element-length (a .explicit) (a .tag) (a .vr) (now (a .bytes)))
+put-header-requires c κs = let a = c .before .before .before .args in omega (arith, element-room (a .explicit) (a .tag) (a .vr) (now (a .bytes)))
 
 put-requires : tie.Need-put-requires
-put-requires c κs = let a = c .before .before .before .before .before .before .before .args in let n = length (now (a .bytes)) in
-    omega (arith, header-length (a .explicit) (a .tag) (a .vr) (n + n % 2), element-length (a .explicit) (a .tag) (a .vr) (now (a .bytes)))
+put-requires c κs = let a = c .before .before .before .before .before .before .before .args in omega (arith, element-room (a .explicit) (a .tag) (a .vr) (now (a .bytes)))
 
 add-put-number : tie.Need-add-put-number
-add-put-number c = let a = c .before .before .before .before .before .before .before .before .before .before .before .args in let n = length (now (a .bytes)) in
-    let h = header-length (a .explicit) (a .tag) (a .vr) (n + n % 2) in
-    let l = element-length (a .explicit) (a .tag) (a .vr) (now (a .bytes)) in
-    search needs
+add-put-number c = let a = c .before .before .before .before .before .before .before .before .before .before .before .args in let l = element-room (a .explicit) (a .tag) (a .vr) (now (a .bytes)) in search needs
 
 put-number-requires : tie.Need-put-number-requires
-put-number-requires c κs = let a = c .before .before .before .before .before .before .before .before .before .before .before .before .args in let n = length (now (a .bytes)) in
-    omega (arith, header-length (a .explicit) (a .tag) (a .vr) (n + n % 2), element-length (a .explicit) (a .tag) (a .vr) (now (a .bytes)))
+put-number-requires c κs = let a = c .before .before .before .before .before .before .before .before .before .before .before .before .args in omega (arith, element-room (a .explicit) (a .tag) (a .vr) (now (a .bytes)))
 
 add-result : tie.Need-add-result
-add-result c = let a = c .before .before .before .before .before .before .before .before .before .before .before .before .before .before .before .args in let n = length (now (a .bytes)) in
-    let h = header-length (a .explicit) (a .tag) (a .vr) (n + n % 2) in
-    let l = element-length (a .explicit) (a .tag) (a .vr) (now (a .bytes)) in
-    search needs
+add-result c = let a = c .before .before .before .before .before .before .before .before .before .before .before .before .before .before .before .args in let l = element-room (a .explicit) (a .tag) (a .vr) (now (a .bytes)) in search needs
 
 add-result-2 : tie.Need-add-result-2
-add-result-2 c = let a = c .before .before .before .before .before .before .before .before .before .before .before .before .before .before .before .args in let n = length (now (a .bytes)) in
-    let h = header-length (a .explicit) (a .tag) (a .vr) (n + n % 2) in
-    let l = element-length (a .explicit) (a .tag) (a .vr) (now (a .bytes)) in
-    search needs
+add-result-2 c = let a = c .before .before .before .before .before .before .before .before .before .before .before .before .before .before .before .args in let l = element-room (a .explicit) (a .tag) (a .vr) (now (a .bytes)) in search needs
 
 returns : tie.Need-returns
-returns c = let a = c .before .before .before .before .before .before .before .before .before .before .before .before .before .before .before .args in let n = length (now (a .bytes)) in
-    let h = header-length (a .explicit) (a .tag) (a .vr) (n + n % 2) in
-    let l = element-length (a .explicit) (a .tag) (a .vr) (now (a .bytes)) in
+returns c = let a = c .before .before .before .before .before .before .before .before .before .before .before .before .before .before .before .args in
+    let n = length (now (a .bytes)) in
+    let l = element-room (a .explicit) (a .tag) (a .vr) (now (a .bytes)) in
     let from = c .before .before .before .before .before .before .before .before .before .before .before .put-header .result in (
       rw (element-parts (a .explicit) (a .tag) (a .vr) (now (a .bytes)))
           (laid-next-two (now (a .out)) _ _ _ (header (a .explicit) (a .tag) (a .vr) (n + n % 2)) (now (a .bytes)) (octets (n % 2) (padding (a .vr)))

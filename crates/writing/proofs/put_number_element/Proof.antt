@@ -2,30 +2,23 @@ use denote.Ref.{now}
 use native.Mathlib.Omega.{arith}
 use Rattle.octets.specs.Octets.{octets}
 use Rattle.writing.specs.Bytes.{header}
-use Rattle.writing.proofs.Sizes.{header-length, number-length}
-use Rattle.writing.proofs.Chain.{laid-next, element-number}
+use Rattle.writing.proofs.Chain.{laid-next, element-number, number-room}
 use borrow.Author.Needs.{needs}
 use Rattle.writing.proofs.put_number_element.Statement.{statement}
 use Rattle.writing.proofs.put_number_element.Tie as tie
 
 put-header-requires : tie.Need-put-header-requires
-put-header-requires c κs = let a = c .before .before .args in
-    omega (arith, header-length (a .explicit) (a .tag) (a .vr) (a .width), number-length (a .explicit) (a .tag) (a .vr) (a .width) (a .x) (c .before .before .pre .1))
+put-header-requires c κs = let a = c .before .before .args in omega (arith, number-room (a .explicit) (a .tag) (a .vr) (a .width) (a .x) (c .before .before .pre .1))
 
 put-number-requires : tie.Need-put-number-requires
-put-number-requires c κs = let a = c .before .before .before .before .before .before .args in
-    omega (arith, header-length (a .explicit) (a .tag) (a .vr) (a .width), number-length (a .explicit) (a .tag) (a .vr) (a .width) (a .x) (c .before .before .before .before .before .before .pre .1))
+put-number-requires c κs = let a = c .before .before .before .before .before .before .args in omega (arith, number-room (a .explicit) (a .tag) (a .vr) (a .width) (a .x) (c .before .before .before .before .before .before .pre .1))
 
 add-result : tie.Need-add-result
-add-result c = let a = c .before .before .before .before .before .before .before .before .before .args in
-    let h = header-length (a .explicit) (a .tag) (a .vr) (a .width) in
-    let l = number-length (a .explicit) (a .tag) (a .vr) (a .width) (a .x) (c .before .before .before .before .before .before .before .before .before .pre .1) in
-    search needs
+add-result c = let a = c .before .before .before .before .before .before .before .before .before .args in let l = number-room (a .explicit) (a .tag) (a .vr) (a .width) (a .x) (c .before .before .before .before .before .before .before .before .before .pre .1) in search needs
 
 returns : tie.Need-returns
 returns c = let a = c .before .before .before .before .before .before .before .before .before .args in
-    let h = header-length (a .explicit) (a .tag) (a .vr) (a .width) in
-    let l = number-length (a .explicit) (a .tag) (a .vr) (a .width) (a .x) (c .before .before .before .before .before .before .before .before .before .pre .1) in (
+    let l = number-room (a .explicit) (a .tag) (a .vr) (a .width) (a .x) (c .before .before .before .before .before .before .before .before .before .pre .1) in (
       rw (element-number (a .explicit) (a .tag) (a .vr) (a .width) (a .x) (c .before .before .before .before .before .before .before .before .before .pre .1))
           (laid-next (now (a .out)) _ _ (header (a .explicit) (a .tag) (a .vr) (a .width)) (octets (a .width) (a .x)) (a .at) (c .before .before .before .before .before .before .put-header .result) (omega arith) (c .before .before .before .before .before .before .put-header .ensures .1)
           (c .before .before .before .before .before .before .put-header .ensures .0) (c .before .before .put-number .ensures)),
