@@ -1,0 +1,12 @@
+/* A plain reader of element lists, to compare with and to time beside. */
+#ifndef PLAIN_READER_H
+#define PLAIN_READER_H
+
+#include <stddef.h>
+#include <stdint.h>
+
+/* Reads n bytes as one data set; syntax 1 is implicit VR, 2 explicit. Returns 0 where it is read whole, 1 to 7 for the
+   refusal, 8 for another syntax. */
+uint32_t plain_data_set(const uint8_t *bytes, size_t n, uint32_t syntax);
+
+#endif
