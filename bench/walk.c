@@ -1,4 +1,4 @@
-/* Times the walk of the archive beside the plain one, on the same data sets, by turns. */
+/* Times the walk of the archive beside the plain one, on the same data sets, by turns, in processor time. */
 #include <stdio.h>
 #include <stdlib.h>
 #include <time.h>
@@ -19,7 +19,7 @@ struct timed {
 
 static double now(void) {
     struct timespec t;
-    clock_gettime(CLOCK_MONOTONIC, &t);
+    clock_gettime(CLOCK_PROCESS_CPUTIME_ID, &t);
     return (double)t.tv_sec + 1e-9 * (double)t.tv_nsec;
 }
 
