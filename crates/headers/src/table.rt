@@ -132,9 +132,11 @@ const FORMS: [Row; 27] = [
 pub fn form_of(vr: usize) -> usize
     ensures { λ r. ⌜ r ≡ formOf vr ⌝ }
 {
+    // the table is laid out once a call, not once a turn
+    let rows = FORMS;
     let mut i = 0;
     while i < 27 {
-        let row = FORMS[i];
+        let row = rows[i];
         if row.0 == vr {
             return row.1;
         }
@@ -147,9 +149,10 @@ pub fn form_of(vr: usize) -> usize
 pub fn named_vr(tag: usize) -> usize
     ensures { λ r. ⌜ r ≡ namedVr tag ⌝ }
 {
+    let rows = NAMED;
     let mut i = 0;
     while i < 35 {
-        let row = NAMED[i];
+        let row = rows[i];
         if row.0 == tag {
             return row.1;
         }

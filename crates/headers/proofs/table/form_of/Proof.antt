@@ -10,10 +10,10 @@ use Rattle.headers.proofs.table.form_of.Statement.{statement}
 use Rattle.headers.proofs.table.form_of.Tie as tie
 
 abbrev Inv-loop : tie.InvT-loop
-Inv-loop vr i₀ i = (i ≤ 27) × (formOf vr ≡ lookup vr (drop i forms))
+Inv-loop vr rows i₀ i = (i ≤ 27) × (formOf vr ≡ lookup vr (drop i forms))
 
 abbrev μ-loop : tie.MeasureT-loop
-μ-loop vr i₀ i = 27 - i
+μ-loop vr rows i₀ i = 27 - i
 
 loop-holds : tie.Need-loop-holds Inv-loop μ-loop
 unfolding formOf

@@ -10,10 +10,10 @@ use Rattle.headers.proofs.table.named_vr.Statement.{statement}
 use Rattle.headers.proofs.table.named_vr.Tie as tie
 
 abbrev Inv-loop : tie.InvT-loop
-Inv-loop tag i₀ i = (i ≤ 35) × (namedVr tag ≡ lookup tag (drop i named))
+Inv-loop tag rows i₀ i = (i ≤ 35) × (namedVr tag ≡ lookup tag (drop i named))
 
 abbrev μ-loop : tie.MeasureT-loop
-μ-loop tag i₀ i = 35 - i
+μ-loop tag rows i₀ i = 35 - i
 
 loop-holds : tie.Need-loop-holds Inv-loop μ-loop
 unfolding namedVr
