@@ -3,6 +3,7 @@
 if [ "$(uname -m)" = x86_64 ]; then
     x86_64_cc=(gcc)
     x86_64_run=()
+    command -v gcc >/dev/null || apt-get install -y -qq gcc libc6-dev >/dev/null
 else
     x86_64_cc=(x86_64-linux-gnu-gcc -static)
     x86_64_run=(qemu-x86_64)
