@@ -1,13 +1,13 @@
 -- A toy struct of a byte and an array of two numbers: its bytes, by computing, and its laws and steps, from those of its parts.
 -- Assumes nothing.
-use Prim.Native.Nat.{ℕ, _+_, _*_, _≤_}
+use Prim.Native.Nat.{ℕ, _+_, _≤_}
 use mathlib.Core.Path.{_≡_, refl}
 use mathlib.Core.List.{List, [], _∷_}
-use lib.ListN.{length, set}
+use lib.ListN.{length}
 use Rattle.octets.specs.Octets.{numberAt, octets}
 use Rattle.fields.specs.Format.{Format, write, byte, number, _then_, readAll, bytesAll, array, via}
-use Rattle.fields.proofs.Laws.{number-laws, array-laws}
-use Rattle.fields.proofs.Steps.{Steps, stored, called, _then-steps_, via-steps}
+use Rattle.fields.proofs.Laws.{byte-laws, number-laws, array-laws}
+use Rattle.fields.proofs.Steps.{Steps, last, _then-steps_, via-steps}
 
 record Toy : Type 0 where
   kind : ℕ
@@ -35,8 +35,9 @@ unfolding write bytesAll octets
 toy-write = refl
 
 abbrev toy-steps : Steps toy
-toy-steps = via-steps _ _ (λ b. refl) (λ a. refl) (stored then-steps called (array-laws 2 (number-laws 2)))
+toy-steps = via-steps _ _ (λ x. refl) (λ t. refl) (byte-laws then-steps last (array-laws 2 (number-laws 2)))
 
--- the byte is stored, and a call writes the array behind it
-toy-written : (x : Toy) (s : List ℕ) (at : ℕ) → at + 5 ≤ length s → write toy x s at ≡ write (array 2 (number 2)) (x .counts) (set s at (x .kind)) (at + 1)
+-- one call writes the byte, and one the array behind it
+toy-written : (x : Toy) (s : List ℕ) (at : ℕ) → at + 5 ≤ length s
+    → write toy x s at ≡ write (array 2 (number 2)) (x .counts) (write byte (x .kind) s at) (at + 1)
 toy-written x s at h = toy-steps .same x s at h

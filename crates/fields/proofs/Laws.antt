@@ -1,25 +1,29 @@
--- What holds of a format: its bytes are as many as its size, what was written is read back, what was read is written back,
--- what was read is good, and the bytes of a good value are bytes. It holds of a byte and of a number, and of two formats, an
--- array and a struct if it holds of their parts. Assumes nothing.
+-- What holds of a format: of a byte and of a number, and of two formats, an array and a struct if it holds of their parts.
+-- Assumes nothing.
 use Prim.Native.Nat.{ℕ, zero, suc, _+_, _*_, _-_, _<_, _≤_}
 use mathlib.Core.Path.{_≡_, refl, sym, ap, _∙_, subst}
 use mathlib.Core.List.{List, [], _∷_, _++_}
 use mathlib.Core.Logic.{⊎-elim}
-use native.Mathlib.Nat.{eq-or-lt-of-le, add-assoc, suc-mul, zero-mul}
+use native.Mathlib.Nat.{eq-or-lt-of-le, suc-mul}
 use native.Mathlib.Numerals.{add-one}
 use native.Mathlib.Omega.{arith}
 use lib.ListN.{length, getD, take, drop, length-append, List·getD-append, take-append-drop}
 use lib.Seq.{getD-at, drop-cons, take-add, drop-drop, take-suc, take-all}
-use Rattle.octets.specs.Octets.{part, laid, Bytes}
+use Rattle.octets.specs.Octets.{part, Bytes}
 use Rattle.octets.proofs.Laid.{Stands, laid-stands, stands-first, stands-second, stands-byte}
 use Rattle.octets.proofs.Numbers.{octets-length, octets-bytes, octets-back, number-back, number-below}
 use Rattle.fields.specs.Format.{Format, write, byte, number, _then_, readAll, bytesAll, array, via}
 
 pub record Laws {A : Type 0} (f : Format A) : Type 0 where
+  -- a value has as many bytes as the format's size
   pub sized : (a : A) → length (f .bytes a) ≡ f .size
+  -- what was written is read back
   pub back : (a : A) (s : List ℕ) (at : ℕ) → f .Good a → Stands s at (f .bytes a) → f .read s at ≡ a
+  -- what was read is written back
   pub forth : (s : List ℕ) (at : ℕ) → Bytes s → at + f .size ≤ length s → f .bytes (f .read s at) ≡ part s at (at + f .size)
+  -- what was read is good
   pub good : (s : List ℕ) (at : ℕ) → Bytes s → f .Good (f .read s at)
+  -- a good value's bytes are bytes
   pub octet : (a : A) → f .Good a → Bytes (f .bytes a)
 
 -- two parts, one behind the other, are one
@@ -30,6 +34,7 @@ part-join s at m n =
     let c : at + (m + n) - at ≡ m + n = omega arith in
     rw (a, b, c, take-add m n (drop at s), drop-drop m at s)
 
+-- two lists of bytes, one behind the other, are bytes
 bytes-append : (a b : List ℕ) → Bytes a → Bytes b → Bytes (a ++ b)
 bytes-append [] b p q i = q i
 bytes-append (x ∷ a) b p q zero = p 0

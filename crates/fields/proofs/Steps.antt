@@ -1,15 +1,16 @@
--- A struct is written field by field: each store lays the next field's bytes behind those that stand there already.
+-- A struct is written field by field: each call lays the next field's bytes behind those that stand there already.
 -- Assumes nothing.
 use Prim.Native.Nat.{ℕ, _+_, _<_, _≤_}
 use mathlib.Core.Path.{_≡_, refl, sym, subst, _∙_}
 use mathlib.Core.List.{List, []}
 use native.Mathlib.Omega.{arith}
 use lib.ListN.{length, set}
-use Rattle.octets.specs.Octets.{octets, laid}
+use Rattle.octets.specs.Octets.{laid}
 use Rattle.octets.proofs.Laid.{length-laid, laid-then, laid-cons, laid-none}
-use Rattle.fields.specs.Format.{Format, write, byte, number, _then_, via}
-use Rattle.fields.proofs.Laws.{Laws, byte-laws, number-laws, _then-laws_, via-laws}
+use Rattle.fields.specs.Format.{Format, write, byte, _then_, via}
+use Rattle.fields.proofs.Laws.{Laws, _then-laws_, via-laws}
 
+-- writing keeps the length
 pub length-write : {A : Type 0} {f : Format A} (F : Laws f) (a : A) (s : List ℕ) (at : ℕ) → at + f .size ≤ length s → length (write f a s at) ≡ length s
 unfolding write
 length-write {f} F a s at h = length-laid s at (f .bytes a) (rw (F .sized a) h)
@@ -32,39 +33,32 @@ pub write-byte : (x : ℕ) (s : List ℕ) (at : ℕ) → at < length s → write
 unfolding write
 write-byte x s at h = laid-cons s at x [] h ∙ laid-none (set s at x) (at + 1)
 
--- a format that obeys the laws, and the steps in which the code writes it
+-- a format that obeys the laws, and how the code writes it: call by call
 pub record Steps {A : Type 0} (f : Format A) : Type 0 where
   pub laws : Laws f
   pub steps : A → List ℕ → ℕ → List ℕ
   pub same : (a : A) (s : List ℕ) (at : ℕ) → at + f .size ≤ length s → write f a s at ≡ steps a s at
 
--- the code stores a byte
-abbrev pub stored : Steps byte
-stored = record {
-  laws = byte-laws;
-  steps = λ x s at. set s at x;
-  same = λ x s at h. write-byte x s at (omega arith);
-}
-
--- the code calls a function that writes it
-abbrev pub called : {A : Type 0} {f : Format A} → Laws f → Steps f
-called {f} F = record {
+-- the last field: one call
+abbrev pub last : {A : Type 0} {f : Format A} → Laws f → Steps f
+last {f} F = record {
   laws = F;
   steps = write f;
   same = λ a s at h. refl;
 }
 
+-- a field, and those behind it
 infixr 40 _then-steps_
-abbrev pub _then-steps_ : {A B : Type 0} {f : Format A} {g : Format B} → Steps f → Steps g → Steps (f then g)
+abbrev pub _then-steps_ : {A B : Type 0} {f : Format A} {g : Format B} → Laws f → Steps g → Steps (f then g)
 _then-steps_ {f} {g} F G = record {
-  laws = F .laws then-laws G .laws;
-  steps = λ a s at. G .steps (a .1) (F .steps (a .0) s at) (at + f .size);
+  laws = F then-laws G .laws;
+  steps = λ a s at. G .steps (a .1) (write f (a .0) s at) (at + f .size);
   same = λ a s at h.
-      write-then (F .laws) g a s at (omega arith)
-      ∙ G .same (a .1) (write f (a .0) s at) (at + f .size) (rw (length-write (F .laws) (a .0) s at (omega arith)) (omega arith))
-      ∙ rw (F .same (a .0) s at (omega arith));
+      write-then F g a s at (omega arith)
+      ∙ G .same (a .1) (write f (a .0) s at) (at + f .size) (rw (length-write F (a .0) s at (omega arith)) (omega arith));
 }
 
+-- a struct, by its fields
 abbrev pub via-steps : {A B : Type 0} (to : A → B) (from : B → A) {f : Format A}
     → ((b : B) → to (from b) ≡ b) → ((a : A) → from (to a) ≡ a) → Steps f → Steps (via to from f)
 via-steps to from {f} onto into F = record {

@@ -1,23 +1,22 @@
 -- What one turn of a loop over an array does: of the first i elements, it makes the first i + 1.
 -- Assumes nothing.
-use Prim.Native.Nat.{ℕ, zero, suc, _+_, _*_, _-_, _<_, _≤_}
-use mathlib.Core.Path.{_≡_, refl, sym, ap, _∙_}
-use mathlib.Core.List.{List, [], _∷_, _++_, append-nil}
+use Prim.Native.Nat.{ℕ, _+_, _*_, _<_, _≤_}
+use mathlib.Core.Path.{_≡_, refl, sym, _∙_}
+use mathlib.Core.List.{List, []}
 use native.Mathlib.Numerals.{add-one}
 use native.Mathlib.Omega.{arith}
-use lib.ListN.{length, getD, set, take, drop, length-drop}
-use lib.Seq.{take-suc-set, take-all, take-suc, getD-drop}
-use Rattle.octets.specs.Octets.{laid}
-use Rattle.octets.proofs.Laid.{laid-then, laid-none}
-use Rattle.fields.specs.Format.{Format, write, byte, readAll, bytesAll, array}
+use lib.ListN.{length, getD, set, take}
+use lib.Seq.{take-suc-set, take-all}
+use Rattle.octets.proofs.Laid.{laid-none}
+use Rattle.fields.specs.Format.{Format, write, readAll, bytesAll, array}
 use Rattle.fields.proofs.Laws.{Laws, array-laws}
 use Rattle.fields.proofs.Steps.{write-then}
 
 module _ {A : Type 0} (f : Format A) where
   -- an array is read: none of its elements, the next, all
-  pub read-none : (s : List ℕ) (at : ℕ) (xs : List A) → take 0 xs ≡ array 0 f .read s at
+  pub read-none : (s : List ℕ) (at : ℕ) → [] ≡ array 0 f .read s at
   unfolding readAll
-  read-none s at xs = refl
+  read-none s at = refl
 
   pub read-turn : (s : List ℕ) (at i : ℕ) (xs : List A) (x : A) → i < length xs → x ≡ f .read s (at + i * f .size)
       → take i xs ≡ array i f .read s at → take (i + 1) (set xs i x) ≡ array (i + 1) f .read s at

@@ -1,9 +1,16 @@
 // Fields: how values stand in bytes. Most of it is definitions and their laws; the code is what reads and writes the byte
 // arrays of records.
 ghost use mathlib.Core.Path.{_≡_};
-ghost use Prim.Native.Nat.{_+_, _≤_};
+ghost use Prim.Native.Nat.{_+_, _≤_, _<_};
 ghost use lib.ListN.{length};
-ghost use Rattle.fields.specs.Format.{Format, write, byte, array};
+ghost use Rattle.fields.specs.Format.{write, byte, array};
+
+pub fn put_byte(s: &mut [u8], at: usize, x: u8)
+    requires { ⌜ at < length (now s) ⌝ }
+    ensures { λ _. ⌜ now (s .exit) ≡ write byte x (now (s .entry)) at ⌝ }
+{
+    s[at] = x;
+}
 
 // The bytes at a place, as many as d takes.
 fn bytes_at(s: &[u8], at: usize, d: &mut [u8])
