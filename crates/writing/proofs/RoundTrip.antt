@@ -13,13 +13,13 @@ use Rattle.elements.specs.declared.Read.the-variants.{Past}
 use Rattle.elements.specs.declared.Found.the-variants.{Value, Sequence}
 use Rattle.elements.specs.Reader.{listAt}
 use Rattle.elements.specs.Find.{findAt, itemsAt}
-use Rattle.writing.specs.Tree.{Elements}
+use Rattle.writing.specs.Tree.{Elements, Items, item}
 use Rattle.writing.specs.Bytes.{written}
 use Rattle.writing.specs.Fit.{Fit}
 use Rattle.writing.specs.Place.{span, placeIn, valueUnder, itemsUnder, told}
 use Rattle.writing.proofs.ListBack.{reads-back}
 use Rattle.writing.proofs.FindBack.{ItemsStand, find-back, value-meant, items-meant}
-use Rattle.writing.proofs.ItemsBack.{found-items-told}
+use Rattle.writing.proofs.ItemsBack.{found-items-told, first-list-stands}
 
 pub record ReadBack (s : List ℕ) (explicit : Bool) (room at : ℕ) (elements : Elements) : Type 0 where
   -- the reader takes the list to its end
@@ -45,3 +45,7 @@ round-trip s explicit room at elements f e = record {
 -- the same of a list that the elements were laid over
 pub round-trip-laid : (s o : List ℕ) (explicit : Bool) (room at : ℕ) (elements : Elements) → Fit explicit room 0 elements → at + length (written explicit elements) ≤ length s → o ≡ laid s at (written explicit elements) → ReadBack o explicit room at elements
 round-trip-laid s o explicit room at elements f h e = round-trip o explicit room at elements f (subst (λ (t : List ℕ). Stands t at (written explicit elements)) (sym e) (laid-stands s at (written explicit elements) h))
+
+-- and of the list of the first of the items that stand somewhere
+pub round-trip-item : (s : List ℕ) (explicit : Bool) (room : ℕ) (i : Inside) (list : Elements) (more : Items) → ItemsStand s explicit room i (item list more) → ReadBack s explicit room (i .from + 8) list
+round-trip-item s explicit room i list more m = round-trip s explicit room (i .from + 8) list (m .fit .1) (first-list-stands s explicit (i .from) list more (m .stands))
