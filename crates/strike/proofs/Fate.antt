@@ -1,0 +1,196 @@
+-- DEMAND 3, proved. A message has one fate: what was answered with a failure, dropped or cut off has no success among its answers.
+-- Assumes nothing.
+use mathlib.Core.Path.{_≡_, refl, sym, _∙_}
+use mathlib.Core.Logic.{_⊎_, inl, inr, ⊎-elim}
+use mathlib.Core.Bool.{Bool, true, false, false≢true}
+use mathlib.Core.Option.{Option, none, some, Option·none-ne-some, Option·some-injective}
+use mathlib.Core.List.{List, [], _∷_}
+use Prim.Native.Nat.{ℕ, suc, _≤_}
+use native.Mathlib.Omega.{arith}
+use borrow.Author.Tests.{eqb-true, eqb-false}
+use lib.Dec.{eqb}
+use Rattle.choice.specs.Pick.{pick}
+use Rattle.choice.proofs.Picks.{clash}
+use Rattle.strike.specs.Service.{DataSet, Result, fails, does, Call, start, opening, feed, close, aside, Check, passes, refuses, Service}
+use Rattle.strike.specs.Machine.{Fragment, command, dataset, fragmentIn, Input, idle, Outcome, ignores, waits, drops, asks, collect}
+use Rattle.strike.specs.Machine.{Answer, refused, done, told, ignored, wait, dropped, failure, success, Records, responds, comes, fed, checked, step}
+use Rattle.strike.specs.Messages.{mayBegin, unfinished, Role, outside, begins, continues, ends, roleOfFragment, Count, current, countAfter, messageOf, cutBy}
+use Rattle.strike.specs.Messages.{Event, struck, Fate, wasCutOff, strikeable, says, isOf, fateOf, roleIf, roleOf, eventOf, historyFrom, history, StrikeOut}
+use Rattle.strike.proofs.Simulation.{Fruitless, Quiet, strike-quiet}
+
+is-of : (i : ℕ) (x : Option ℕ) → isOf i x ≡ true → x ≡ some i
+unfolding isOf
+is-of i none h = absurd (false≢true h)
+is-of i (some j) h = rw (eqb-true i j h)
+
+not-of : (i : ℕ) (x : Option ℕ) → isOf i x ≡ false → x ≡ some i → ⊥
+unfolding isOf
+not-of i none h e = Option·none-ne-some i e
+not-of i (some j) h e = eqb-false i j h (sym (Option·some-injective j i e))
+
+picked : (b : Bool) (x : Option ℕ) (i : ℕ) → pick b x none ≡ some i → x ≡ some i
+picked true x i e = e
+picked false x i e = absurd (Option·none-ne-some i e)
+
+-- the current message is the last that began
+current-last : (n : Count) (i : ℕ) → current n ≡ some i → n .begun ≡ i
+current-last n i e = Option·some-injective (n .begun) i (picked (n .goesOn) (some (n .begun)) i e)
+
+-- no success of message i
+abbrev Never : {Arg Response Told : Type 0} → ℕ → List (Event Arg Response Told) → Type 0
+Never i [] = Unit {0}
+Never i (e ∷ es) = (e .message ≡ some i → Fruitless (e .answer)) × Never i es
+
+-- message i is over: another has begun or, where it is the current one, all is idle
+abbrev Over : ℕ → Count → Input → Type 0
+Over i n input = (i ≤ n .begun) × (current n ≡ some i → input ≡ idle)
+
+-- what an answer says of its message, if that may be struck: no success, and either what comes later may be struck, or the message is over
+says-either : {Response Told : Type 0} (a : Answer Response Told) (later : Fate) → strikeable (says a later) ≡ true
+    → Fruitless a × ((strikeable later ≡ true) ⊎ (a ≡ wait → ⊥))
+unfolding strikeable says
+says-either (refused n) later h = (tt, inl h)
+says-either done later h = (tt, inl h)
+says-either (told t) later h = (tt, inl h)
+says-either ignored later h = (tt, inl h)
+says-either wait later h = (tt, inl h)
+says-either dropped later h = (tt, inr (λ e. let z : _≡_ {A = ℕ} 0 1 = cc in omega arith))
+says-either (failure r d) later h = (tt, inr (λ e. let z : _≡_ {A = ℕ} 0 1 = cc in omega arith))
+says-either (success r d) later h = absurd (false≢true h)
+
+-- a call of message i, or one that cuts it off, is not ahead of the count
+of-begun : (i : ℕ) (r : Role) (n : Count) → messageOf r n ≡ some i → i ≤ countAfter r n .begun
+unfolding messageOf countAfter
+of-begun i outside n e = absurd (Option·none-ne-some i e)
+of-begun i begins n e = omega (arith, Option·some-injective _ _ e)
+of-begun i continues n e = omega (arith, current-last n i e)
+of-begun i ends n e = absurd (Option·none-ne-some i e)
+
+cut-over : (i : ℕ) (r : Role) (input input′ : Input) (n : Count) → cutBy r input n ≡ some i → Over i (countAfter r n) input′
+unfolding cutBy countAfter
+cut-over i outside input input′ n e = absurd (Option·none-ne-some i e)
+cut-over i begins input input′ n e =
+    let l = current-last n i (picked (unfinished input) (current n) i e) in
+    (omega arith, λ q. absurd (omega (arith, Option·some-injective _ _ q)))
+cut-over i continues input input′ n e = absurd (Option·none-ne-some i e)
+cut-over i ends input input′ n e = absurd (Option·none-ne-some i e)
+
+module _ (G : Service) where
+  open Service G using (Core, Arg, Response, Told, check, context, room, reading, request)
+
+  -- what a call does with message i that is over: it is no success of it, and leaves it over
+  abbrev Onward : ℕ → Check → Records Core → Count → Call Arg → Type 0
+  Onward i x s n c =
+      (messageOf (roleIf G x s c) n ≡ some i → Fruitless (checked G x s c .answer))
+      × Over i (countAfter (roleIf G x s c) n) (checked G x s c .records .input)
+
+  over-command : (i : ℕ) (s : Records Core) (n : Count) (last : Bool) (bytes : List ℕ) (b : Bool) → mayBegin (s .input) ≡ b → Over i n (s .input)
+      → (messageOf (pick b begins continues) n ≡ some i → Fruitless (fed G s (some (command last bytes)) .answer))
+      × Over i (countAfter (pick b begins continues) n) (fed G s (some (command last bytes)) .records .input)
+  unfolding messageOf countAfter mayBegin
+  over-command i s n last bytes true b o = (
+    λ q. absurd (omega (arith, Option·some-injective _ _ q)),
+    (omega arith, λ q. absurd (omega (arith, Option·some-injective _ _ q))),
+  )
+  over-command i s n last bytes false b o =
+      let no : current n ≡ some i → ⊥ = λ q. clash b (rw (o .1 q)) in
+      (λ q. absurd (no q), (o .0, λ q. absurd (no q)))
+
+  over-data : (i : ℕ) (s : Records Core) (n : Count) (last : Bool) (bytes : List ℕ) → Over i n (s .input)
+      → (current n ≡ some i → Fruitless (fed G s (some (dataset last bytes)) .answer))
+      × Over i n (fed G s (some (dataset last bytes)) .records .input)
+  unfolding fed comes collect
+  over-data i s n last bytes o = (λ q. rw (o .1 q) tt, (o .0, λ q. rw (o .1 q)))
+
+  over-fed : (i : ℕ) (s : Records Core) (n : Count) (f : Option Fragment) → Over i n (s .input)
+      → (messageOf (roleOfFragment (s .input) f) n ≡ some i → Fruitless (fed G s f .answer))
+      × Over i (countAfter (roleOfFragment (s .input) f) n) (fed G s f .records .input)
+  unfolding messageOf countAfter roleOfFragment fed
+  over-fed i s n none o = (λ q. absurd (Option·none-ne-some i q), (o .0, λ q. refl))
+  over-fed i s n (some (command last bytes)) o = over-command i s n last bytes (mayBegin (s .input)) refl o
+  over-fed i s n (some (dataset last bytes)) o = over-data i s n last bytes o
+
+  over-checked : (i : ℕ) (x : Check) (s : Records Core) (n : Count) (c : Call Arg) → Over i n (s .input) → Onward i x s n c
+  unfolding messageOf countAfter roleIf checked
+  over-checked i (refuses m) s n c o = (λ q. absurd (Option·none-ne-some i q), o)
+  over-checked i passes s n (start a) o = (λ q. tt, (o .0, λ q. refl))
+  over-checked i passes s n (opening a) o = (λ q. tt, (o .0, λ q. refl))
+  over-checked i passes s n (feed bytes a) o = over-fed i s n (fragmentIn (context (s .core)) bytes) o
+  over-checked i passes s n (close a) o = (λ q. tt, (o .0, λ q. refl))
+  over-checked i passes s n (aside a) o = (λ q. tt, o)
+
+  over-never : (i : ℕ) (cs : List (Call Arg)) (s : Records Core) (n : Count) → Over i n (s .input) → Never i (historyFrom G s n cs)
+  unfolding historyFrom eventOf roleOf step
+  over-never i [] s n o = tt
+  over-never i (c ∷ cs) s n o =
+      let x = over-checked i (check (s .core) c) s n c o in
+      (x .0, over-never i cs _ _ (x .1))
+
+  -- a call of a message that does not wait leaves all idle
+  responds-idle : (k : Core) (d : DataSet) (r : Result Core Response) → responds G k d r .records .input ≡ idle
+  unfolding responds
+  responds-idle k d (fails r) = refl
+  responds-idle k d (does k′ r) = refl
+
+  comes-idle : (k : Core) (o : Outcome) → (comes G k o .answer ≡ wait → ⊥) → comes G k o .records .input ≡ idle
+  unfolding comes
+  comes-idle k ignores h = refl
+  comes-idle k (waits i) h = absurd (h refl)
+  comes-idle k drops h = refl
+  comes-idle k (asks c d) h = responds-idle k d (request k c d)
+
+  fed-idle : (s : Records Core) (f : Option Fragment) → (fed G s f .answer ≡ wait → ⊥) → fed G s f .records .input ≡ idle
+  unfolding fed
+  fed-idle s none h = refl
+  fed-idle s (some f) h = comes-idle (s .core) (collect reading (room (s .core)) (s .input) f) h
+
+  checked-idle : (i : ℕ) (x : Check) (s : Records Core) (n : Count) (c : Call Arg) → messageOf (roleIf G x s c) n ≡ some i
+      → (checked G x s c .answer ≡ wait → ⊥) → checked G x s c .records .input ≡ idle
+  unfolding messageOf roleIf checked
+  checked-idle i (refuses m) s n c e h = absurd (Option·none-ne-some i e)
+  checked-idle i passes s n (start a) e h = refl
+  checked-idle i passes s n (opening a) e h = refl
+  checked-idle i passes s n (feed bytes a) e h = fed-idle s (fragmentIn (context (s .core)) bytes) h
+  checked-idle i passes s n (close a) e h = refl
+  checked-idle i passes s n (aside a) e h = absurd (Option·none-ne-some i e)
+
+  -- one call: is it of message i, and if not, does it cut i off
+  fate-call : (i : ℕ) (c : Call Arg) (cs : List (Call Arg)) (s : Records Core) (n : Count) (later : Fate) (x y : Bool)
+      → isOf i (messageOf (roleOf G s c) n) ≡ x → isOf i (cutBy (roleOf G s c) (s .input) n) ≡ y
+      → strikeable (pick x (says (step G s c .answer) later) (pick y wasCutOff later)) ≡ true
+      → (strikeable later ≡ true → Never i (historyFrom G (step G s c .records) (countAfter (roleOf G s c) n) cs))
+      → Never i (eventOf G s n c ∷ historyFrom G (step G s c .records) (countAfter (roleOf G s c) n) cs)
+  unfolding eventOf roleOf step
+  fate-call i c cs s n later true y p q h rest =
+      let e = is-of i _ p in
+      let a = says-either (step G s c .answer) later h in (
+        λ z. a .0,
+        ⊎-elim rest (λ no. over-never i cs _ _ (of-begun i _ n e, λ z. checked-idle i (check (s .core) c) s n c e no)) (a .1),
+      )
+  fate-call i c cs s n later false true p q h rest = (
+    λ z. absurd (not-of i _ p z),
+    over-never i cs _ _ (cut-over i _ (s .input) _ n (is-of i _ q)),
+  )
+  fate-call i c cs s n later false false p q h rest = (λ z. absurd (not-of i _ p z), rest h)
+
+  one-fate : (i : ℕ) (cs : List (Call Arg)) (s : Records Core) (n : Count) → strikeable (fateOf i (historyFrom G s n cs)) ≡ true
+      → Never i (historyFrom G s n cs)
+  unfolding fateOf historyFrom eventOf
+  one-fate i [] s n h = tt
+  one-fate i (c ∷ cs) s n h = fate-call i c cs s n _ _ _ refl refl h (one-fate i cs _ _)
+
+  -- what no message of the set did, no struck call did
+  struck-quiet : (S : ℕ → Bool) (x : Option ℕ) (a : Answer Response Told) → ((i : ℕ) → S i ≡ true → x ≡ some i → Fruitless a)
+      → struck S x ≡ true → Fruitless a
+  unfolding struck
+  struck-quiet S none a h e = absurd (false≢true e)
+  struck-quiet S (some i) a h e = h i e refl
+
+  never-quiet : (S : ℕ → Bool) (es : List (Event Arg Response Told)) → ((i : ℕ) → S i ≡ true → Never i es) → Quiet S es
+  never-quiet S [] h = tt
+  never-quiet S (e ∷ es) h = (struck-quiet S (e .message) (e .answer) (λ i q. h i q .0), never-quiet S es (λ i q. h i q .1))
+
+  -- DEMAND 3
+  pub strike-out : StrikeOut G
+  unfolding StrikeOut history
+  strike-out s cs S h = strike-quiet G S s cs (never-quiet S (history G s cs) (λ i q. one-fate i cs s _ (h i q)))

@@ -1,0 +1,2 @@
+pub mod Simulation
+pub mod Fate

@@ -1,0 +1,202 @@
+-- The whole run and the run without struck messages, side by side. They have one core throughout; while the current message is kept they
+-- have one input, and while it is struck the shorter run stands where a message may begin.
+-- Assumes nothing.
+use mathlib.Core.Path.{_≡_, refl, sym, _∙_, ap, ap₂, subst}
+use mathlib.Core.Bool.{Bool, true, false, false≢true}
+use mathlib.Core.Option.{Option, none, some}
+use mathlib.Core.List.{List, [], _∷_}
+use Prim.Native.Nat.{ℕ}
+use Rattle.choice.specs.Pick.{pick}
+use Rattle.choice.proofs.Picks.{clash}
+use Rattle.strike.specs.Service.{Reading, DataSet, Result, fails, does, Call, start, opening, feed, close, aside, Check, passes, refuses, Service}
+use Rattle.strike.specs.Machine.{Fragment, command, dataset, fragmentIn, Input, idle, inCommand, skippingCommand, inData, skippingData}
+use Rattle.strike.specs.Machine.{Outcome, ignores, waits, drops, asks, gathers, collect}
+use Rattle.strike.specs.Machine.{Answer, refused, done, told, ignored, wait, dropped, failure, success, Records, Step, leaves, responds, comes, fed, checked, step}
+use Rattle.strike.specs.Messages.{mayBegin, Role, begins, continues, roleOfFragment, Count, current, countAfter, messageOf, Event, struck, without, callsOf, answersOf}
+use Rattle.strike.specs.Messages.{roleIf, roleOf, eventOf, historyFrom, history, answers, after, Same}
+
+-- where a message may begin, a command fragment begins one, whatever stood there
+collect-begins : (reading : List ℕ → Reading) (room : ℕ) (i : Input) (last : Bool) (bytes : List ℕ) → mayBegin i ≡ true
+    → collect reading room i (command last bytes) ≡ gathers reading bytes last
+unfolding collect mayBegin
+collect-begins reading room idle last bytes h = refl
+collect-begins reading room (inCommand c) last bytes h = absurd (false≢true h)
+collect-begins reading room skippingCommand last bytes h = absurd (false≢true h)
+collect-begins reading room (inData c d) last bytes h = refl
+collect-begins reading room (skippingData c) last bytes h = refl
+
+-- no success
+abbrev pub Fruitless : {Response Told : Type 0} → Answer Response Told → Type 0
+Fruitless (refused n) = Unit {0}
+Fruitless done = Unit {0}
+Fruitless (told t) = Unit {0}
+Fruitless ignored = Unit {0}
+Fruitless wait = Unit {0}
+Fruitless dropped = Unit {0}
+Fruitless (failure r d) = Unit {0}
+Fruitless (success r d) = ⊥
+
+-- no call that is struck out succeeded
+abbrev pub Quiet : {Arg Response Told : Type 0} → (ℕ → Bool) → List (Event Arg Response Told) → Type 0
+Quiet S [] = Unit {0}
+Quiet S (e ∷ es) = (struck S (e .message) ≡ true → Fruitless (e .answer)) × Quiet S es
+
+-- the inputs of the whole run and of the shorter one, by whether the current message is struck
+Tied : Bool → Input → Input → Type 0
+Tied true i j = mayBegin j ≡ true
+Tied false i j = i ≡ j
+
+tied-idle : (t : Bool) → Tied t idle idle
+unfolding Tied mayBegin
+tied-idle true = refl
+tied-idle false = refl
+
+tied-kept : (t : Bool) (i : Input) → t ≡ false → Tied t i i
+unfolding Tied
+tied-kept true i h = absurd (clash h refl)
+tied-kept false i h = refl
+
+both-begin : (t : Bool) (i j : Input) → Tied t i j → mayBegin i ≡ true → mayBegin j ≡ true
+unfolding Tied
+both-begin true i j h b = h
+both-begin false i j h b = rw h at b
+
+module _ (G : Service) where
+  open Service G using (Core, Arg, Response, Told, check, opened, closed, asked, context, room, reading, request)
+
+  responds-core : (k : Core) (d : DataSet) (r : Result Core Response) → Fruitless (responds G k d r .answer) → responds G k d r .records .core ≡ k
+  unfolding responds
+  responds-core k d (fails r) h = refl
+  responds-core k d (does k′ r) h = absurd h
+
+  comes-core : (k : Core) (o : Outcome) → Fruitless (comes G k o .answer) → comes G k o .records .core ≡ k
+  unfolding comes
+  comes-core k ignores h = refl
+  comes-core k (waits i) h = refl
+  comes-core k drops h = refl
+  comes-core k (asks c d) h = responds-core k d (request k c d) h
+
+  module _ (S : ℕ → Bool) where
+    record Tie (n : Count) (s t : Records Core) : Type 0 where
+      one-core : s .core ≡ t .core
+      tied : Tied (struck S (current n)) (s .input) (t .input)
+
+    record Kept (n : Count) (x y : Step Core Response Told) : Type 0 where
+      one-answer : x .answer ≡ y .answer
+      tie : Tie n (x .records) (y .records)
+
+    -- one step, after which the current message is kept
+    kept-same : (n : Count) (x y : Step Core Response Told) → struck S (current n) ≡ false → x ≡ y → Kept n x y
+    kept-same n x y h e =
+        subst (λ (z : Step Core Response Told). Kept n x z) e
+        (record { one-answer = refl; tie = record { one-core = refl; tied = tied-kept _ _ h } })
+
+    kept-idle : (n : Count) (k k′ : Core) (a : Answer Response Told) → k ≡ k′ → Kept n (leaves k idle a) (leaves k′ idle a)
+    kept-idle n k k′ a e = record { one-answer = refl; tie = record { one-core = e; tied = tied-idle _ } }
+
+    -- a fragment that goes on with a kept message
+    keep-continues : (n : Count) (s t : Records Core) (f : Fragment) → struck S (current n) ≡ false → Tie n s t
+        → Kept n (fed G s (some f)) (fed G t (some f))
+    unfolding Tied fed
+    keep-continues n s t f h r =
+        let i : s .input ≡ t .input = rw h at (r .tied) in
+        kept-same n _ _ h (ap₂ (λ (k : Core) (j : Input). comes G k (collect reading (room k) j f)) (r .one-core) i)
+
+    -- a command fragment, which begins a kept message or goes on with one
+    keep-command : (n : Count) (s t : Records Core) (last : Bool) (bytes : List ℕ) (b : Bool) → mayBegin (s .input) ≡ b
+        → struck S (messageOf (pick b begins continues) n) ≡ false → Tie n s t
+        → Kept (countAfter (pick b begins continues) n) (fed G s (some (command last bytes))) (fed G t (some (command last bytes)))
+    unfolding messageOf countAfter fed
+    keep-command n s t last bytes true b h r =
+        kept-same _ _ _ h
+        (rw (collect-begins _ _ (s .input) last bytes b, collect-begins _ _ (t .input) last bytes (both-begin _ (s .input) (t .input) (r .tied) b), r .one-core))
+    keep-command n s t last bytes false b h r = keep-continues n s t (command last bytes) h r
+
+    keep-fed : (n : Count) (s t : Records Core) (f : Option Fragment) → struck S (messageOf (roleOfFragment (s .input) f) n) ≡ false → Tie n s t
+        → Kept (countAfter (roleOfFragment (s .input) f) n) (fed G s f) (fed G t f)
+    unfolding messageOf countAfter roleOfFragment fed
+    keep-fed n s t none h r = kept-idle n _ _ _ (ap closed (r .one-core))
+    keep-fed n s t (some (command last bytes)) h r = keep-command n s t last bytes (mayBegin (s .input)) refl h r
+    keep-fed n s t (some (dataset last bytes)) h r = keep-continues n s t (dataset last bytes) h r
+
+    -- a call that is kept
+    keep-checked : (n : Count) (s t : Records Core) (x : Check) (c : Call Arg) → struck S (messageOf (roleIf G x s c) n) ≡ false → Tie n s t
+        → Kept (countAfter (roleIf G x s c) n) (checked G x s c) (checked G x t c)
+    unfolding messageOf countAfter roleIf checked
+    keep-checked n s t (refuses m) c h r = record { one-answer = refl; tie = r }
+    keep-checked n s t passes (start a) h r = kept-idle _ _ _ _ refl
+    keep-checked n s t passes (opening a) h r = kept-idle _ _ _ _ (ap (λ (k : Core). opened k a) (r .one-core))
+    keep-checked n s t passes (feed bytes a) h r =
+        subst (λ (k : Core). Kept (countAfter (roleOfFragment (s .input) (fragmentIn (context (s .core)) bytes)) n) (fed G s (fragmentIn (context (s .core)) bytes)) (fed G t (fragmentIn (context k) bytes))) (r .one-core)
+        (keep-fed n s t (fragmentIn (context (s .core)) bytes) h r)
+    keep-checked n s t passes (close a) h r = kept-idle _ _ _ _ (ap closed (r .one-core))
+    keep-checked n s t passes (aside a) h r =
+        record {
+          one-answer = ap (λ (k : Core). told (asked k a .1)) (r .one-core);
+          tie = record { one-core = ap (λ (k : Core). asked k a .0) (r .one-core); tied = r .tied };
+        }
+
+    keep-step : (n : Count) (s t : Records Core) (c : Call Arg) → struck S (messageOf (roleOf G s c) n) ≡ false → Tie n s t
+        → Kept (countAfter (roleOf G s c) n) (step G s c) (step G t c)
+    unfolding roleOf step
+    keep-step n s t c h r =
+        subst (λ (k : Core). Kept (countAfter (roleOf G s c) n) (step G s c) (checked G (check k c) t c)) (r .one-core)
+        (keep-checked n s t (check (s .core) c) c h r)
+
+    -- a fragment that is struck out
+    skip-fed : (n m : Count) (s t : Records Core) (f : Fragment) → struck S (current m) ≡ true → mayBegin (t .input) ≡ true
+        → Fruitless (fed G s (some f) .answer) → Tie n s t → Tie m (fed G s (some f) .records) t
+    unfolding Tied fed
+    skip-fed n m s t f h b q r = record { one-core = comes-core _ _ q ∙ r .one-core; tied = rw h b }
+
+    skip-command : (n : Count) (s t : Records Core) (last : Bool) (bytes : List ℕ) (b : Bool) → mayBegin (s .input) ≡ b
+        → struck S (messageOf (pick b begins continues) n) ≡ true → Fruitless (fed G s (some (command last bytes)) .answer) → Tie n s t
+        → Tie (countAfter (pick b begins continues) n) (fed G s (some (command last bytes)) .records) t
+    unfolding Tied messageOf countAfter
+    skip-command n s t last bytes true b h q r = skip-fed n _ s t (command last bytes) h (both-begin (struck S (current n)) _ _ (r .tied) b) q r
+    skip-command n s t last bytes false b h q r = skip-fed n n s t _ h (rw h at (r .tied)) q r
+
+    skip-option : (n : Count) (s t : Records Core) (f : Option Fragment) → struck S (messageOf (roleOfFragment (s .input) f) n) ≡ true
+        → Fruitless (fed G s f .answer) → Tie n s t → Tie (countAfter (roleOfFragment (s .input) f) n) (fed G s f .records) t
+    unfolding Tied struck messageOf countAfter roleOfFragment
+    skip-option n s t none h q r = absurd (false≢true h)
+    skip-option n s t (some (command last bytes)) h q r = skip-command n s t last bytes (mayBegin (s .input)) refl h q r
+    skip-option n s t (some (dataset last bytes)) h q r = skip-fed n n s t (dataset last bytes) h (rw h at (r .tied)) q r
+
+    skip-checked : (n : Count) (s t : Records Core) (x : Check) (c : Call Arg) → struck S (messageOf (roleIf G x s c) n) ≡ true
+        → Fruitless (checked G x s c .answer) → Tie n s t → Tie (countAfter (roleIf G x s c) n) (checked G x s c .records) t
+    unfolding struck messageOf countAfter roleIf checked
+    skip-checked n s t (refuses m) c h q r = absurd (false≢true h)
+    skip-checked n s t passes (start a) h q r = absurd (false≢true h)
+    skip-checked n s t passes (opening a) h q r = absurd (false≢true h)
+    skip-checked n s t passes (feed bytes a) h q r = skip-option n s t (fragmentIn (context (s .core)) bytes) h q r
+    skip-checked n s t passes (close a) h q r = absurd (false≢true h)
+    skip-checked n s t passes (aside a) h q r = absurd (false≢true h)
+
+    -- the two runs, from tied records
+    abbrev Ends : Records Core → Records Core → List (Call Arg) → List (Event Arg Response Told) → Type 0
+    Ends s t cs left = (answers G t (callsOf left) ≡ answersOf left) × (after G t (callsOf left) .core ≡ after G s cs .core)
+
+    both-call : (n : Count) (s t : Records Core) (c : Call Arg) (cs : List (Call Arg)) (left : List (Event Arg Response Told)) (b : Bool)
+        → struck S (messageOf (roleOf G s c) n) ≡ b → (b ≡ true → Fruitless (step G s c .answer)) → Tie n s t
+        → ((u : Records Core) → Tie (countAfter (roleOf G s c) n) (step G s c .records) u → Ends (step G s c .records) u cs left)
+        → Ends s t (c ∷ cs) (pick b left (eventOf G s n c ∷ left))
+    unfolding answers after eventOf roleOf step
+    both-call n s t c cs left true h q r rest = rest t (skip-checked n s t (check (s .core) c) c h (q refl) r)
+    both-call n s t c cs left false h q r rest =
+        let k = keep-step n s t c h r in
+        let e = rest (step G t c .records) (k .tie) in
+        (ap₂ _∷_ (sym (k .one-answer)) (e .0), e .1)
+
+    both-runs : (cs : List (Call Arg)) (n : Count) (s t : Records Core) → Tie n s t → Quiet S (historyFrom G s n cs)
+        → Ends s t cs (without S (historyFrom G s n cs))
+    unfolding answers after historyFrom without eventOf
+    both-runs [] n s t r q = (refl, sym (r .one-core))
+    both-runs (c ∷ cs) n s t r q =
+        both-call n s t c cs _ (struck S (messageOf (roleOf G s c) n)) refl (q .0) r (λ u r′. both-runs cs _ _ u r′ (q .1))
+
+    pub strike-quiet : (s : Records Core) (cs : List (Call Arg)) → Quiet S (history G s cs) → Same G s cs (without S (history G s cs))
+    unfolding history struck Tied
+    strike-quiet s cs q =
+        let e = both-runs cs (record { begun = 0; goesOn = false }) s s (record { one-core = refl; tied = refl }) q in
+        record { same-answers = e .0; same-core = e .1 }

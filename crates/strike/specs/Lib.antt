@@ -1,0 +1,3 @@
+pub mod Service
+pub mod Machine
+pub mod Messages
