@@ -1,2 +1,6 @@
 pub mod Simulation
 pub mod Fate
+pub mod Lies
+pub mod Refine
+pub mod Fakes
+pub mod Toy

@@ -1,0 +1,201 @@
+-- A shop as a service, and a run of it from which three messages are struck: what each call answers, which message it is of, how each
+-- message ended, and what differs when the two runs end. Then the fakes of it.
+-- Assumes nothing.
+use mathlib.Core.Path.{_≡_, refl}
+use mathlib.Core.Bool.{Bool, true, false, false≢true}
+use mathlib.Core.Option.{Option, none, some}
+use mathlib.Core.List.{List, [], _∷_, map}
+use Prim.Native.Nat.{ℕ, suc, _+_}
+use lib.Dec.{eqb}
+use lib.ListN.{length, getD}
+use Rattle.choice.specs.Pick.{pick, both, either, not}
+use Rattle.octets.specs.Octets.{bigNumberAt}
+use Rattle.strike.specs.Service.{Reading, unreadable, alone, withData, DataSet, noData, whole, tooLong, Result, fails, does}
+use Rattle.strike.specs.Service.{Call, start, opening, feed, close, aside, Check, passes, refuses, Service}
+use Rattle.strike.specs.Machine.{headerWrong, fragmentIn, idle, inData, skips, reads, gathers, overflows, stores, collect, lays}
+use Rattle.strike.specs.Machine.{Answer, refused, done, told, ignored, wait, dropped, failure, success, Records, responds, comes, fed, checked, step, laysIf, messageAfter}
+use Rattle.strike.specs.Messages.{mayBegin, unfinished, roleOfFragment, countAfter, messageOf, cutBy, Event, struck, without, callsOf, answersOf}
+use Rattle.strike.specs.Messages.{Fate, succeeded, failed, wasDropped, wasCutOff, unsettled, strikeable, says, isOf, fateOf}
+use Rattle.strike.specs.Messages.{roleIf, roleOf, eventOf, historyFrom, history, answers, after, Same, StrikeOut}
+use Rattle.strike.proofs.Fate.{strike-out}
+use Rattle.strike.proofs.Fakes.{dropsAll, failsAll, oneReply, storesNone, storesFirst}
+
+-- is it open, how long is the message buffer, what has been sold, and how often was that asked
+record Shop : Type 0 where
+  isOpen : Bool
+  space : ℕ
+  sold : ℕ
+  looks : ℕ
+
+abbrev sells : Shop → ℕ → Result Shop ℕ
+sells k n = does (record { isOpen = k .isOpen; space = k .space; sold = k .sold + n; looks = k .looks }) (k .sold + n)
+
+-- the length of the message buffer is handed over with each call
+abbrev shopCheck : Shop → Call ℕ → Check
+shopCheck k (start n) = passes
+shopCheck k (opening n) = pick (k .isOpen) (refuses 3) passes
+shopCheck k (feed bytes n) = pick (not (eqb n (k .space))) (refuses 2) (pick (k .isOpen) passes (refuses 4))
+shopCheck k (close n) = pick (k .isOpen) passes (refuses 4)
+shopCheck k (aside n) = pick (eqb (k .sold) 0) (refuses 6) passes
+
+-- command 1 sells one, 2 fails, 3 sells one for each byte of its data set
+abbrev shopReading : ℕ → Reading
+shopReading c = pick (eqb c 3) withData (pick (either (eqb c 1) (eqb c 2)) alone unreadable)
+
+abbrev shopRequest : Shop → ℕ → DataSet → Result Shop ℕ
+shopRequest k c noData = pick (eqb c 1) (sells k 1) (fails (k .sold))
+shopRequest k c (whole d) = sells k (length d)
+shopRequest k c tooLong = fails (k .sold)
+
+abbrev shop : Service
+shop =
+    record {
+      Core = Shop;
+      Arg = ℕ;
+      Response = ℕ;
+      Told = ℕ;
+      check = shopCheck;
+      started = λ n. record { isOpen = false; space = 0; sold = 0; looks = 0 };
+      opened = λ k n. record { isOpen = true; space = n; sold = k .sold; looks = k .looks };
+      closed = λ k. record { isOpen = false; space = 0; sold = k .sold; looks = k .looks };
+      asked = λ k n. (record { isOpen = k .isOpen; space = k .space; sold = k .sold; looks = suc (k .looks) }, k .sold);
+      context = λ k. 1;
+      room = λ k. k .space;
+      reading = λ c. shopReading (getD c 0 0);
+      request = λ k c d. shopRequest k (getD c 0 0) d;
+    }
+
+-- a fragment by its control byte: 0 data, 1 command, 2 data and last, 3 command and last
+abbrev fragment : ℕ → List ℕ → List ℕ
+fragment control bytes = 0 ∷ 0 ∷ 0 ∷ (2 + length bytes) ∷ 1 ∷ control ∷ bytes
+
+abbrev fragmentFed : ℕ → List ℕ → Call ℕ
+fragmentFed control bytes = feed (fragment control bytes) 4
+
+abbrev shut : Records Shop
+shut = record { core = record { isOpen = false; space = 0; sold = 1; looks = 0 }; input = idle }
+
+abbrev calls : List (Call ℕ)
+calls =
+    opening 4
+    ∷ fragmentFed 2 (5 ∷ [])
+    -- message 1: cut off
+    ∷ fragmentFed 3 (3 ∷ [])
+    ∷ fragmentFed 0 (5 ∷ 6 ∷ [])
+    -- message 2: too long, so that it fails
+    ∷ fragmentFed 1 (3 ∷ [])
+    ∷ aside 4
+    ∷ fragmentFed 3 []
+    ∷ fragmentFed 0 (7 ∷ 7 ∷ 7 ∷ 7 ∷ [])
+    ∷ feed (fragment 2 (8 ∷ [])) 5
+    ∷ fragmentFed 2 (8 ∷ [])
+    ∷ fragmentFed 2 (8 ∷ [])
+    -- message 3: cut off
+    ∷ fragmentFed 3 (3 ∷ [])
+    ∷ opening 4
+    ∷ fragmentFed 0 (6 ∷ 6 ∷ 6 ∷ [])
+    -- message 4: done
+    ∷ fragmentFed 3 (3 ∷ [])
+    ∷ fragmentFed 2 (1 ∷ 2 ∷ [])
+    -- message 5: cut off
+    ∷ fragmentFed 3 (3 ∷ [])
+    ∷ fragmentFed 0 (4 ∷ [])
+    -- message 6: dropped
+    ∷ fragmentFed 3 (0 ∷ [])
+    ∷ aside 4
+    ∷ fragmentFed 2 (8 ∷ [])
+    ∷ []
+
+-- all that may be struck but messages 1 and 5, which struck ones had cut off
+abbrev chosen : ℕ → Bool
+chosen i = both (strikeable (fateOf i (history shop shut calls))) (not (either (eqb i 1) (eqb i 5)))
+
+abbrev left : List (Event ℕ ℕ ℕ)
+left = without chosen (history shop shut calls)
+
+-- the message buffer after a run
+leftover : Records Shop → List (Call ℕ) → List ℕ → List ℕ
+leftover s [] message = message
+leftover s (start n ∷ cs) message = leftover (step shop s (start n) .records) cs message
+leftover s (opening n ∷ cs) message = leftover (step shop s (opening n) .records) cs message
+leftover s (feed bytes n ∷ cs) message = leftover (step shop s (feed bytes n) .records) cs (messageAfter shop s bytes n message)
+leftover s (close n ∷ cs) message = leftover (step shop s (close n) .records) cs message
+leftover s (aside n ∷ cs) message = leftover (step shop s (aside n) .records) cs message
+
+abbrev lent : List ℕ
+lent = 9 ∷ 9 ∷ 9 ∷ 9 ∷ []
+
+-- two sales of one, as they are asked for
+abbrev twice : List (Call ℕ)
+twice = opening 4 ∷ fragmentFed 3 (1 ∷ []) ∷ fragmentFed 3 (1 ∷ []) ∷ aside 4 ∷ []
+
+abbrev fake : Records (Shop × Bool)
+fake = record { core = (shut .core, false); input = idle }
+
+record Computed : Type 0 where
+  all-answers :
+      answers shop shut calls
+      ≡ done ∷ ignored ∷ wait ∷ wait ∷ wait ∷ told 1 ∷ wait ∷ wait ∷ refused 2 ∷ failure 1 tooLong ∷ ignored ∷ wait ∷ refused 3 ∷ wait
+      ∷ wait ∷ success 3 (whole (1 ∷ 2 ∷ [])) ∷ wait ∷ wait ∷ dropped ∷ told 3 ∷ ignored ∷ []
+  all-messages :
+      map (λ e. e .message) (history shop shut calls)
+      ≡ none ∷ none ∷ some 1 ∷ some 1 ∷ some 2 ∷ none ∷ some 2 ∷ some 2 ∷ none ∷ some 2 ∷ some 2 ∷ some 3 ∷ none ∷ some 3
+      ∷ some 4 ∷ some 4 ∷ some 5 ∷ some 5 ∷ some 6 ∷ none ∷ some 6 ∷ []
+  all-fates :
+      map (λ i. fateOf i (history shop shut calls)) (0 ∷ 1 ∷ 2 ∷ 3 ∷ 4 ∷ 5 ∷ 6 ∷ 7 ∷ [])
+      ≡ unsettled ∷ wasCutOff ∷ failed ∷ wasCutOff ∷ succeeded ∷ wasCutOff ∷ wasDropped ∷ unsettled ∷ []
+  -- messages 2, 3 and 6 are struck
+  calls-left :
+      callsOf left
+      ≡ opening 4 ∷ fragmentFed 2 (5 ∷ []) ∷ fragmentFed 3 (3 ∷ []) ∷ fragmentFed 0 (5 ∷ 6 ∷ []) ∷ aside 4 ∷ feed (fragment 2 (8 ∷ [])) 5 ∷ opening 4
+      ∷ fragmentFed 3 (3 ∷ []) ∷ fragmentFed 2 (1 ∷ 2 ∷ []) ∷ fragmentFed 3 (3 ∷ []) ∷ fragmentFed 0 (4 ∷ []) ∷ aside 4 ∷ []
+  answers-left :
+      answers shop shut (callsOf left)
+      ≡ done ∷ ignored ∷ wait ∷ wait ∷ told 1 ∷ refused 2 ∷ refused 3 ∷ wait ∷ success 3 (whole (1 ∷ 2 ∷ [])) ∷ wait ∷ wait ∷ told 3 ∷ []
+  -- one core at the end, but not one input, and not one message buffer
+  all-end : after shop shut calls ≡ record { core = record { isOpen = true; space = 4; sold = 3; looks = 2 }; input = idle }
+  left-end :
+      after shop shut (callsOf left)
+      ≡ record { core = record { isOpen = true; space = 4; sold = 3; looks = 2 }; input = inData (3 ∷ []) (4 ∷ []) }
+  all-leftover : leftover shut calls lent ≡ 4 ∷ 2 ∷ 6 ∷ 7 ∷ []
+  left-leftover : leftover shut (callsOf left) lent ≡ 4 ∷ 2 ∷ 9 ∷ 9 ∷ []
+  -- a success must stay: without message 4 less is sold
+  success-missed : after shop shut (callsOf (without (λ i. eqb i 4) (history shop shut calls))) .core .sold ≡ 1
+  -- the shop and its fakes
+  right-answers : answers shop shut twice ≡ done ∷ success 2 noData ∷ success 3 noData ∷ told 3 ∷ []
+  drops-all : answers (dropsAll shop) fake twice ≡ done ∷ dropped ∷ dropped ∷ told 1 ∷ []
+  fails-all : answers (failsAll shop 2) fake twice ≡ done ∷ failure 2 noData ∷ failure 2 noData ∷ told 1 ∷ []
+  one-reply : answers (oneReply shop 2) fake twice ≡ done ∷ success 2 noData ∷ success 2 noData ∷ told 1 ∷ []
+  stores-none : answers (storesNone shop) fake twice ≡ done ∷ success 2 noData ∷ success 2 noData ∷ told 1 ∷ []
+  stores-first : answers (storesFirst shop) fake twice ≡ done ∷ success 2 noData ∷ success 3 noData ∷ told 2 ∷ []
+
+computed : Computed
+unfolding bigNumberAt headerWrong fragmentIn skips reads gathers overflows stores collect lays responds comes fed checked step laysIf messageAfter mayBegin unfinished roleOfFragment countAfter messageOf cutBy struck without strikeable says isOf fateOf roleIf roleOf eventOf historyFrom history answers after leftover
+computed =
+    record {
+      all-answers = refl;
+      all-messages = refl;
+      all-fates = refl;
+      calls-left = refl;
+      answers-left = refl;
+      all-end = refl;
+      left-end = refl;
+      all-leftover = refl;
+      left-leftover = refl;
+      success-missed = refl;
+      right-answers = refl;
+      drops-all = refl;
+      fails-all = refl;
+      one-reply = refl;
+      stores-none = refl;
+      stores-first = refl;
+    }
+
+both-true : (a b : Bool) → both a b ≡ true → a ≡ true
+both-true true b h = refl
+both-true false b h = h
+
+-- the theorem, at this run
+struck-out : Same shop shut calls left
+unfolding StrikeOut
+struck-out = strike-out shop shut calls chosen (λ i h. both-true _ _ h)
