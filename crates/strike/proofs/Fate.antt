@@ -13,7 +13,7 @@ use Rattle.choice.specs.Pick.{pick}
 use Rattle.choice.proofs.Picks.{clash}
 use Rattle.strike.specs.Service.{DataSet, Result, fails, does, Call, start, opening, feed, close, aside, Check, passes, refuses, Service}
 use Rattle.strike.specs.Machine.{Fragment, command, dataset, fragmentIn, Input, idle, Outcome, ignores, waits, drops, asks, collect}
-use Rattle.strike.specs.Machine.{Answer, refused, done, told, ignored, wait, dropped, failure, success, Records, responds, comes, fed, checked, step}
+use Rattle.strike.specs.Machine.{Answer, refused, done, told, ignored, wait, dropped, failure, success, Records, answered, carriedOut, fed, checked, step}
 use Rattle.strike.specs.Messages.{mayBegin, unfinished, Role, outside, begins, continues, ends, roleOfFragment, Count, current, countAfter, messageOf, cutBy}
 use Rattle.strike.specs.Messages.{Event, struck, Fate, wasCutOff, strikeable, says, isOf, fateOf, roleIf, roleOf, eventOf, historyFrom, history, StrikeOut}
 use Rattle.strike.proofs.Simulation.{Fruitless, Quiet, strike-quiet}
@@ -99,7 +99,7 @@ module _ (G : Service) where
   over-data : (i : ℕ) (s : Records Core) (n : Count) (last : Bool) (bytes : List ℕ) → Over i n (s .input)
       → (current n ≡ some i → Fruitless (fed G s (some (dataset last bytes)) .answer))
       × Over i n (fed G s (some (dataset last bytes)) .records .input)
-  unfolding fed comes collect
+  unfolding fed carriedOut collect
   over-data i s n last bytes o = (λ q. rw (o .1 q) tt, (o .0, λ q. rw (o .1 q)))
 
   over-fed : (i : ℕ) (s : Records Core) (n : Count) (f : Option Fragment) → Over i n (s .input)
@@ -127,22 +127,22 @@ module _ (G : Service) where
       (x .0, over-never i cs _ _ (x .1))
 
   -- a call of a message that does not wait leaves all idle
-  responds-idle : (k : Core) (d : DataSet) (r : Result Core Response) → responds G k d r .records .input ≡ idle
-  unfolding responds
-  responds-idle k d (fails r) = refl
-  responds-idle k d (does k′ r) = refl
+  answered-idle : (k : Core) (d : DataSet) (r : Result Core Response) → answered G k d r .records .input ≡ idle
+  unfolding answered
+  answered-idle k d (fails r) = refl
+  answered-idle k d (does k′ r) = refl
 
-  comes-idle : (k : Core) (o : Outcome) → (comes G k o .answer ≡ wait → ⊥) → comes G k o .records .input ≡ idle
-  unfolding comes
-  comes-idle k ignores h = refl
-  comes-idle k (waits i) h = absurd (h refl)
-  comes-idle k drops h = refl
-  comes-idle k (asks c d) h = responds-idle k d (request k c d)
+  carried-idle : (k : Core) (o : Outcome) → (carriedOut G k o .answer ≡ wait → ⊥) → carriedOut G k o .records .input ≡ idle
+  unfolding carriedOut
+  carried-idle k ignores h = refl
+  carried-idle k (waits i) h = absurd (h refl)
+  carried-idle k drops h = refl
+  carried-idle k (asks c d) h = answered-idle k d (request k c d)
 
   fed-idle : (s : Records Core) (f : Option Fragment) → (fed G s f .answer ≡ wait → ⊥) → fed G s f .records .input ≡ idle
   unfolding fed
   fed-idle s none h = refl
-  fed-idle s (some f) h = comes-idle (s .core) (collect reading (room (s .core)) (s .input) f) h
+  fed-idle s (some f) h = carried-idle (s .core) (collect reading (room (s .core)) (s .input) f) h
 
   checked-idle : (i : ℕ) (x : Check) (s : Records Core) (n : Count) (c : Call Arg) → messageOf (roleIf G x s c) n ≡ some i
       → (checked G x s c .answer ≡ wait → ⊥) → checked G x s c .records .input ≡ idle

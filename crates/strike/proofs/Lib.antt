@@ -1,5 +1,6 @@
 pub mod Simulation
 pub mod Fate
+pub mod Collecting
 pub mod Lies
 pub mod Refine
 pub mod Fakes

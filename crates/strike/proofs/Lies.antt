@@ -16,8 +16,8 @@ use Rattle.octets.proofs.Laid.{length-laid}
 use Rattle.strike.specs.Service.{Reading, unreadable, alone, withData, DataSet, noData, whole, tooLong}
 use Rattle.strike.specs.Service.{Result, fails, does, feed, Check, passes, refuses, Service}
 use Rattle.strike.specs.Machine.{Fragment, command, dataset, Input, idle, inCommand, skippingCommand, inData, skippingData}
-use Rattle.strike.specs.Machine.{Outcome, ignores, waits, drops, asks, skips, reads, gathers, overflows, stores, collect, lays}
-use Rattle.strike.specs.Machine.{fragmentIn, Answer, refused, done, told, ignored, wait, dropped, failure, success, Records, responds, comes, fed, checked, step, laysIf, messageAfter}
+use Rattle.strike.specs.Machine.{Outcome, ignores, waits, drops, asks, skips, reads, gathers, overflows, stores, collect, laidBy}
+use Rattle.strike.specs.Machine.{fragmentIn, Answer, refused, done, told, ignored, wait, dropped, failure, success, Records, Step, answered, carriedOut, fed, checked, step, laidIf, messageAfter}
 
 -- up to the end of what is laid stands what lay before it, and it
 pub take-laid : (s : List ℕ) (at : ℕ) (bytes : List ℕ) → at + length bytes ≤ length s → take (at + length bytes) (laid s at bytes) ≡ take at s ++ bytes
@@ -71,47 +71,35 @@ overflows-lies c true message = tt
 overflows-lies c false message = tt
 
 module _ (c d bytes message : List ℕ) (h : take (length d) message ≡ d) where
+  room-enough : length (d ++ bytes) ≤ length message → length d + length bytes ≤ length message
+  room-enough l = omega (arith, length-append d bytes)
+
   behind : length (d ++ bytes) ≤ length message → take (length (d ++ bytes)) (laid message (length d) bytes) ≡ d ++ bytes
-  behind l =
-      let e = length-append d bytes in
-      rw e (take-laid message (length d) bytes (omega arith) ∙ rw h)
+  behind l = rw (length-append d bytes) (take-laid message (length d) bytes (room-enough l) ∙ rw h)
 
   stores-lies : (fits last : Bool) → leb (length (d ++ bytes)) (length message) ≡ fits
       → OutcomeLies (pick fits (pick last (asks c (whole (d ++ bytes))) (waits (inData c (d ++ bytes)))) (overflows c last))
       (pick fits (laid message (length d) bytes) message)
-  stores-lies true true e = behind (leb-true _ _ e)
-  stores-lies true false e = behind (leb-true _ _ e)
-  stores-lies false last e = overflows-lies c last message
+      × (length (pick fits (laid message (length d) bytes) message) ≡ length message)
+  stores-lies true true e = (behind (leb-true _ _ e), length-laid message (length d) bytes (room-enough (leb-true _ _ e)))
+  stores-lies true false e = (behind (leb-true _ _ e), length-laid message (length d) bytes (room-enough (leb-true _ _ e)))
+  stores-lies false last e = (overflows-lies c last message, refl)
 
-  stores-length : (fits : Bool) → leb (length (d ++ bytes)) (length message) ≡ fits → length (pick fits (laid message (length d) bytes) message) ≡ length message
-  stores-length true e =
-      let l : length (d ++ bytes) ≤ length message = leb-true _ _ e in
-      length-laid message (length d) bytes (omega (arith, length-append d bytes))
-  stores-length false e = refl
-
+-- after a fragment data lies there again, and the message buffer has kept its length
 pub collect-lies : (reading : List ℕ → Reading) (i : Input) (f : Fragment) (message : List ℕ) → Lies i message
-    → OutcomeLies (collect reading (length message) i f) (lays (length message) i f message)
-unfolding collect lays stores
-collect-lies reading idle (command last bytes) message h = gathers-lies reading bytes last message
-collect-lies reading (inCommand c) (command last bytes) message h = gathers-lies reading (c ++ bytes) last message
-collect-lies reading skippingCommand (command last bytes) message h = skips-lies last message
-collect-lies reading (inData c d) (command last bytes) message h = gathers-lies reading bytes last message
-collect-lies reading (skippingData c) (command last bytes) message h = gathers-lies reading bytes last message
-collect-lies reading idle (dataset last bytes) message h = tt
-collect-lies reading (inCommand c) (dataset last bytes) message h = tt
-collect-lies reading skippingCommand (dataset last bytes) message h = tt
+    → OutcomeLies (collect reading (length message) i f) (laidBy (length message) i f message)
+    × (length (laidBy (length message) i f message) ≡ length message)
+unfolding collect laidBy stores
+collect-lies reading idle (command last bytes) message h = (gathers-lies reading bytes last message, refl)
+collect-lies reading (inCommand c) (command last bytes) message h = (gathers-lies reading (c ++ bytes) last message, refl)
+collect-lies reading skippingCommand (command last bytes) message h = (skips-lies last message, refl)
+collect-lies reading (inData c d) (command last bytes) message h = (gathers-lies reading bytes last message, refl)
+collect-lies reading (skippingData c) (command last bytes) message h = (gathers-lies reading bytes last message, refl)
+collect-lies reading idle (dataset last bytes) message h = (tt, refl)
+collect-lies reading (inCommand c) (dataset last bytes) message h = (tt, refl)
+collect-lies reading skippingCommand (dataset last bytes) message h = (tt, refl)
 collect-lies reading (inData c d) (dataset last bytes) message h = stores-lies c d bytes message h (leb (length (d ++ bytes)) (length message)) last refl
-collect-lies reading (skippingData c) (dataset last bytes) message h = overflows-lies c last message
-
--- the message buffer keeps its length
-pub lays-length : (i : Input) (f : Fragment) (message : List ℕ) → Lies i message → length (lays (length message) i f message) ≡ length message
-unfolding lays
-lays-length idle f message h = refl
-lays-length (inCommand c) f message h = refl
-lays-length skippingCommand f message h = refl
-lays-length (inData c d) (command last bytes) message h = refl
-lays-length (inData c d) (dataset last bytes) message h = stores-length c d bytes message h (leb (length (d ++ bytes)) (length message)) refl
-lays-length (skippingData c) f message h = refl
+collect-lies reading (skippingData c) (dataset last bytes) message h = (overflows-lies c last message, refl)
 
 -- a response's data set lies at the start of the message buffer
 abbrev pub AnswerLies : {Response Told : Type 0} → Answer Response Told → List ℕ → Type 0
@@ -127,45 +115,42 @@ AnswerLies (success r d) message = DataLies d message
 module _ (G : Service) where
   open Service G using (Core, Arg, Response, Told, check, context, room, reading, request)
 
-  responds-lies : (k : Core) (d : DataSet) (r : Result Core Response) (message : List ℕ) → DataLies d message
-      → Lies (responds G k d r .records .input) message × AnswerLies (responds G k d r .answer) message
-  unfolding responds
-  responds-lies k d (fails r) message h = (tt, h)
-  responds-lies k d (does k′ r) message h = (tt, h)
+  answered-lies : (k : Core) (d : DataSet) (r : Result Core Response) (message : List ℕ) → DataLies d message
+      → Lies (answered G k d r .records .input) message × AnswerLies (answered G k d r .answer) message
+  unfolding answered
+  answered-lies k d (fails r) message h = (tt, h)
+  answered-lies k d (does k′ r) message h = (tt, h)
 
-  comes-lies : (k : Core) (o : Outcome) (message : List ℕ) → OutcomeLies o message
-      → Lies (comes G k o .records .input) message × AnswerLies (comes G k o .answer) message
-  unfolding comes
-  comes-lies k ignores message h = (tt, tt)
-  comes-lies k (waits i) message h = (h, tt)
-  comes-lies k drops message h = (tt, tt)
-  comes-lies k (asks c d) message h = responds-lies k d (request k c d) message h
+  carried-lies : (k : Core) (o : Outcome) (message : List ℕ) → OutcomeLies o message
+      → Lies (carriedOut G k o .records .input) message × AnswerLies (carriedOut G k o .answer) message
+  unfolding carriedOut
+  carried-lies k ignores message h = (tt, tt)
+  carried-lies k (waits i) message h = (h, tt)
+  carried-lies k drops message h = (tt, tt)
+  carried-lies k (asks c d) message h = answered-lies k d (request k c d) message h
 
-  module _ (s : Records Core) (bytes : List ℕ) (a : Arg) (message : List ℕ) (e : room (s .core) ≡ length message) (h : Lies (s .input) message) where
-    fed-lies : (f : Option Fragment) → Lies (fed G s f .records .input) (laysIf G passes s f message) × AnswerLies (fed G s f .answer) (laysIf G passes s f message)
-    unfolding fed laysIf
-    fed-lies none = (tt, tt)
-    fed-lies (some f) = rw e (comes-lies (s .core) _ _ (collect-lies reading (s .input) f message h))
+  -- after a step: the data that the input holds, a response's data set, and the length of the message buffer
+  pub record StepLies (x : Step Core Response Told) (message before : List ℕ) : Type 0 where
+    pub input-lies : Lies (x .records .input) message
+    pub answer-lies : AnswerLies (x .answer) message
+    pub same-length : length message ≡ length before
 
-    checked-lies : (x : Check) (f : Option Fragment) → fragmentIn (context (s .core)) bytes ≡ f
-        → Lies (checked G x s (feed bytes a) .records .input) (laysIf G x s f message)
-        × AnswerLies (checked G x s (feed bytes a) .answer) (laysIf G x s f message)
-    unfolding checked laysIf
-    checked-lies (refuses n) f q = (h, tt)
-    checked-lies passes f q = rw q (fed-lies f)
+  module _ (s : Records Core) (message : List ℕ) (e : room (s .core) ≡ length message) (h : Lies (s .input) message) where
+    fed-lies : (f : Option Fragment) → StepLies (fed G s f) (laidIf G passes s f message) message
+    unfolding fed laidIf
+    fed-lies none = record { input-lies = tt; answer-lies = tt; same-length = refl }
+    fed-lies (some f) =
+        rw e
+        (let c = collect-lies reading (s .input) f message h in
+        let o = carried-lies (s .core) _ _ (c .0) in
+        record { input-lies = o .0; answer-lies = o .1; same-length = c .1 })
 
-    -- after a feed
-    pub feed-lies : Lies (step G s (feed bytes a) .records .input) (messageAfter G s bytes a message)
-        × AnswerLies (step G s (feed bytes a) .answer) (messageAfter G s bytes a message)
+    checked-lies : (x : Check) (bytes : List ℕ) (a : Arg)
+        → StepLies (checked G x s (feed bytes a)) (laidIf G x s (fragmentIn (context (s .core)) bytes) message) message
+    unfolding checked laidIf
+    checked-lies (refuses n) bytes a = record { input-lies = h; answer-lies = tt; same-length = refl }
+    checked-lies passes bytes a = fed-lies (fragmentIn (context (s .core)) bytes)
+
+    pub feed-lies : (bytes : List ℕ) (a : Arg) → StepLies (step G s (feed bytes a)) (messageAfter G s bytes a message) message
     unfolding step messageAfter
-    feed-lies = checked-lies (check (s .core) (feed bytes a)) (fragmentIn (context (s .core)) bytes) refl
-
-    checked-length : (x : Check) (f : Option Fragment) → length (laysIf G x s f message) ≡ length message
-    unfolding laysIf
-    checked-length (refuses n) f = refl
-    checked-length passes none = refl
-    checked-length passes (some f) = rw e (lays-length (s .input) f message h)
-
-    pub feed-length : length (messageAfter G s bytes a message) ≡ length message
-    unfolding messageAfter
-    feed-length = checked-length _ _
+    feed-lies bytes a = checked-lies (check (s .core) (feed bytes a)) bytes a

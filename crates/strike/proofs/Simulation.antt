@@ -11,7 +11,7 @@ use Rattle.choice.proofs.Picks.{clash}
 use Rattle.strike.specs.Service.{Reading, DataSet, Result, fails, does, Call, start, opening, feed, close, aside, Check, passes, refuses, Service}
 use Rattle.strike.specs.Machine.{Fragment, command, dataset, fragmentIn, Input, idle, inCommand, skippingCommand, inData, skippingData}
 use Rattle.strike.specs.Machine.{Outcome, ignores, waits, drops, asks, gathers, collect}
-use Rattle.strike.specs.Machine.{Answer, refused, done, told, ignored, wait, dropped, failure, success, Records, Step, leaves, responds, comes, fed, checked, step}
+use Rattle.strike.specs.Machine.{Answer, refused, done, told, ignored, wait, dropped, failure, success, Records, Step, leaves, answered, carriedOut, fed, checked, step}
 use Rattle.strike.specs.Messages.{mayBegin, Role, begins, continues, roleOfFragment, Count, current, countAfter, messageOf, Event, struck, without, callsOf, answersOf}
 use Rattle.strike.specs.Messages.{roleIf, roleOf, eventOf, historyFrom, history, answers, after, Same}
 
@@ -64,17 +64,17 @@ both-begin false i j h b = rw h at b
 module _ (G : Service) where
   open Service G using (Core, Arg, Response, Told, check, opened, closed, asked, context, room, reading, request)
 
-  responds-core : (k : Core) (d : DataSet) (r : Result Core Response) → Fruitless (responds G k d r .answer) → responds G k d r .records .core ≡ k
-  unfolding responds
-  responds-core k d (fails r) h = refl
-  responds-core k d (does k′ r) h = absurd h
+  answered-core : (k : Core) (d : DataSet) (r : Result Core Response) → Fruitless (answered G k d r .answer) → answered G k d r .records .core ≡ k
+  unfolding answered
+  answered-core k d (fails r) h = refl
+  answered-core k d (does k′ r) h = absurd h
 
-  comes-core : (k : Core) (o : Outcome) → Fruitless (comes G k o .answer) → comes G k o .records .core ≡ k
-  unfolding comes
-  comes-core k ignores h = refl
-  comes-core k (waits i) h = refl
-  comes-core k drops h = refl
-  comes-core k (asks c d) h = responds-core k d (request k c d) h
+  carried-core : (k : Core) (o : Outcome) → Fruitless (carriedOut G k o .answer) → carriedOut G k o .records .core ≡ k
+  unfolding carriedOut
+  carried-core k ignores h = refl
+  carried-core k (waits i) h = refl
+  carried-core k drops h = refl
+  carried-core k (asks c d) h = answered-core k d (request k c d) h
 
   module _ (S : ℕ → Bool) where
     record Tie (n : Count) (s t : Records Core) : Type 0 where
@@ -100,7 +100,7 @@ module _ (G : Service) where
     unfolding Tied fed
     keep-continues n s t f h r =
         let i : s .input ≡ t .input = rw h at (r .tied) in
-        kept-same n _ _ h (ap₂ (λ (k : Core) (j : Input). comes G k (collect reading (room k) j f)) (r .one-core) i)
+        kept-same n _ _ h (ap₂ (λ (k : Core) (j : Input). carriedOut G k (collect reading (room k) j f)) (r .one-core) i)
 
     -- a command fragment, which begins a kept message or goes on with one
     keep-command : (n : Count) (s t : Records Core) (last : Bool) (bytes : List ℕ) (b : Bool) → mayBegin (s .input) ≡ b
@@ -147,7 +147,7 @@ module _ (G : Service) where
     skip-fed : (n m : Count) (s t : Records Core) (f : Fragment) → struck S (current m) ≡ true → mayBegin (t .input) ≡ true
         → Fruitless (fed G s (some f) .answer) → Tie n s t → Tie m (fed G s (some f) .records) t
     unfolding Tied fed
-    skip-fed n m s t f h b q r = record { one-core = comes-core _ _ q ∙ r .one-core; tied = rw h b }
+    skip-fed n m s t f h b q r = record { one-core = carried-core _ _ q ∙ r .one-core; tied = rw h b }
 
     skip-command : (n : Count) (s t : Records Core) (last : Bool) (bytes : List ℕ) (b : Bool) → mayBegin (s .input) ≡ b
         → struck S (messageOf (pick b begins continues) n) ≡ true → Fruitless (fed G s (some (command last bytes)) .answer) → Tie n s t

@@ -12,8 +12,8 @@ use Rattle.choice.specs.Pick.{pick, both, either, not}
 use Rattle.octets.specs.Octets.{bigNumberAt}
 use Rattle.strike.specs.Service.{Reading, unreadable, alone, withData, DataSet, noData, whole, tooLong, Result, fails, does}
 use Rattle.strike.specs.Service.{Call, start, opening, feed, close, aside, Check, passes, refuses, Service}
-use Rattle.strike.specs.Machine.{headerWrong, fragmentIn, idle, inData, skips, reads, gathers, overflows, stores, collect, lays}
-use Rattle.strike.specs.Machine.{Answer, refused, done, told, ignored, wait, dropped, failure, success, Records, responds, comes, fed, checked, step, laysIf, messageAfter}
+use Rattle.strike.specs.Machine.{headerWrong, fragmentIn, idle, inData, skips, reads, gathers, overflows, stores, collect, laidBy}
+use Rattle.strike.specs.Machine.{Answer, refused, done, told, ignored, wait, dropped, failure, success, Records, answered, carriedOut, fed, checked, step, laidIf, messageAfter}
 use Rattle.strike.specs.Messages.{mayBegin, unfinished, roleOfFragment, countAfter, messageOf, cutBy, Event, struck, without, callsOf, answersOf}
 use Rattle.strike.specs.Messages.{Fate, succeeded, failed, wasDropped, wasCutOff, unsettled, strikeable, says, isOf, fateOf}
 use Rattle.strike.specs.Messages.{roleIf, roleOf, eventOf, historyFrom, history, answers, after, Same, StrikeOut}
@@ -125,6 +125,12 @@ leftover s (aside n ∷ cs) message = leftover (step shop s (aside n) .records) 
 abbrev lent : List ℕ
 lent = 9 ∷ 9 ∷ 9 ∷ 9 ∷ []
 
+-- a message, and fragments after a close and a start
+abbrev closing : List (Call ℕ)
+closing =
+    opening 4 ∷ fragmentFed 3 (0 ∷ []) ∷ close 4 ∷ opening 4 ∷ fragmentFed 2 (8 ∷ [])
+    ∷ fragmentFed 3 (0 ∷ []) ∷ start 4 ∷ opening 4 ∷ fragmentFed 2 (8 ∷ []) ∷ []
+
 -- two sales of one, as they are asked for
 abbrev twice : List (Call ℕ)
 twice = opening 4 ∷ fragmentFed 3 (1 ∷ []) ∷ fragmentFed 3 (1 ∷ []) ∷ aside 4 ∷ []
@@ -161,6 +167,10 @@ record Computed : Type 0 where
   left-leftover : leftover shut (callsOf left) lent ≡ 4 ∷ 2 ∷ 9 ∷ 9 ∷ []
   -- a success must stay: without message 4 less is sold
   success-missed : after shop shut (callsOf (without (λ i. eqb i 4) (history shop shut calls))) .core .sold ≡ 1
+  -- a close and a start end a message
+  closed-messages :
+      map (λ e. e .message) (history shop shut closing)
+      ≡ none ∷ some 1 ∷ none ∷ none ∷ none ∷ some 2 ∷ none ∷ none ∷ none ∷ []
   -- the shop and its fakes
   right-answers : answers shop shut twice ≡ done ∷ success 2 noData ∷ success 3 noData ∷ told 3 ∷ []
   drops-all : answers (dropsAll shop) fake twice ≡ done ∷ dropped ∷ dropped ∷ told 1 ∷ []
@@ -170,7 +180,7 @@ record Computed : Type 0 where
   stores-first : answers (storesFirst shop) fake twice ≡ done ∷ success 2 noData ∷ success 3 noData ∷ told 2 ∷ []
 
 computed : Computed
-unfolding bigNumberAt headerWrong fragmentIn skips reads gathers overflows stores collect lays responds comes fed checked step laysIf messageAfter mayBegin unfinished roleOfFragment countAfter messageOf cutBy struck without strikeable says isOf fateOf roleIf roleOf eventOf historyFrom history answers after leftover
+unfolding bigNumberAt headerWrong fragmentIn skips reads gathers overflows stores collect laidBy answered carriedOut fed checked step laidIf messageAfter mayBegin unfinished roleOfFragment countAfter messageOf cutBy struck without strikeable says isOf fateOf roleIf roleOf eventOf historyFrom history answers after leftover
 computed =
     record {
       all-answers = refl;
@@ -183,6 +193,7 @@ computed =
       all-leftover = refl;
       left-leftover = refl;
       success-missed = refl;
+      closed-messages = refl;
       right-answers = refl;
       drops-all = refl;
       fails-all = refl;

@@ -88,13 +88,13 @@ collect reading room (skippingData c) (dataset last bytes) = overflows c last
 collect reading room idle (dataset last bytes) = ignores
 
 -- the message buffer after a fragment: data that fits is laid behind the data before it, all else stays
-unfoldable pub lays : ℕ → Input → Fragment → List ℕ → List ℕ
-lays room (inData c d) (dataset last bytes) message = pick (leb (length (d ++ bytes)) room) (laid message (length d) bytes) message
-lays room (inData c d) (command last bytes) message = message
-lays room idle f message = message
-lays room (inCommand c) f message = message
-lays room skippingCommand f message = message
-lays room (skippingData c) f message = message
+unfoldable pub laidBy : ℕ → Input → Fragment → List ℕ → List ℕ
+laidBy room (inData c d) (dataset last bytes) message = pick (leb (length (d ++ bytes)) room) (laid message (length d) bytes) message
+laidBy room (inData c d) (command last bytes) message = message
+laidBy room idle f message = message
+laidBy room (inCommand c) f message = message
+laidBy room skippingCommand f message = message
+laidBy room (skippingData c) f message = message
 
 -- What a call returns and writes: done is 0. A response stands with the data set that it answers, since its note may name a part of it in
 -- the message buffer. A success may be a warning.
@@ -119,20 +119,20 @@ leaves k i a = record { records = record { core = k; input = i }; answer = a }
 module _ (G : Service) where
   open Service G using (Core, Arg, Response, Told, check, started, opened, closed, asked, context, room, reading, request)
 
-  unfoldable pub responds : Core → DataSet → Result Core Response → Step Core Response Told
-  responds k d (fails r) = leaves k idle (failure r d)
-  responds k d (does k′ r) = leaves k′ idle (success r d)
+  unfoldable pub answered : Core → DataSet → Result Core Response → Step Core Response Told
+  answered k d (fails r) = leaves k idle (failure r d)
+  answered k d (does k′ r) = leaves k′ idle (success r d)
 
-  unfoldable pub comes : Core → Outcome → Step Core Response Told
-  comes k ignores = leaves k idle ignored
-  comes k (waits i) = leaves k i wait
-  comes k drops = leaves k idle dropped
-  comes k (asks c d) = responds k d (request k c d)
+  unfoldable pub carriedOut : Core → Outcome → Step Core Response Told
+  carriedOut k ignores = leaves k idle ignored
+  carriedOut k (waits i) = leaves k i wait
+  carriedOut k drops = leaves k idle dropped
+  carriedOut k (asks c d) = answered k d (request k c d)
 
   -- a fragment; with a wrong header the association ends as by close
   unfoldable pub fed : Records Core → Option Fragment → Step Core Response Told
   fed s none = leaves (closed (s .core)) idle (refused 5)
-  fed s (some f) = comes (s .core) (collect reading (room (s .core)) (s .input) f)
+  fed s (some f) = carriedOut (s .core) (collect reading (room (s .core)) (s .input) f)
 
   unfoldable pub checked : Check → Records Core → Call Arg → Step Core Response Told
   checked (refuses n) s c = record { records = s; answer = refused n }
@@ -147,10 +147,10 @@ module _ (G : Service) where
   step s c = checked (check (s .core) c) s c
 
   -- the message buffer after a feed
-  unfoldable pub laysIf : Check → Records Core → Option Fragment → List ℕ → List ℕ
-  laysIf (refuses n) s f message = message
-  laysIf passes s none message = message
-  laysIf passes s (some f) message = lays (room (s .core)) (s .input) f message
+  unfoldable pub laidIf : Check → Records Core → Option Fragment → List ℕ → List ℕ
+  laidIf (refuses n) s f message = message
+  laidIf passes s none message = message
+  laidIf passes s (some f) message = laidBy (room (s .core)) (s .input) f message
 
   unfoldable pub messageAfter : Records Core → List ℕ → Arg → List ℕ → List ℕ
-  messageAfter s bytes a message = laysIf (check (s .core) (feed bytes a)) s (fragmentIn (context (s .core)) bytes) message
+  messageAfter s bytes a message = laidIf (check (s .core) (feed bytes a)) s (fragmentIn (context (s .core)) bytes) message
