@@ -2,14 +2,13 @@
 -- Assumes nothing.
 use mathlib.Core.Path.{_≡_, refl}
 use mathlib.Core.Bool.{true, false}
-use mathlib.Core.Option.{Option, none, some}
-use mathlib.Core.List.{List, [], _∷_, map}
-use Prim.Native.Nat.{ℕ}
+use mathlib.Core.Option.{none, some}
+use mathlib.Core.List.{[], _∷_, map}
 use lib.ListN.{replicate}
 use Rattle.octets.specs.Octets.{bigNumberAt}
 use Rattle.strike.specs.Service.{withData, whole, tooLong}
 use Rattle.strike.specs.Machine.{Fragment, command, dataset, headerWrong, fragmentIn, Input, idle, inCommand, skippingCommand, inData, skippingData}
-use Rattle.strike.specs.Machine.{Outcome, ignores, waits, drops, asks, skips, reads, gathers, overflows, stores, collect}
+use Rattle.strike.specs.Machine.{Outcome, waits, drops, asks, skips, reads, gathers, overflows, stores, collect}
 
 abbrev collected : Input → Fragment → Outcome
 collected i f = collect (λ c. withData) 4 i f

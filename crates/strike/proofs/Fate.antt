@@ -1,22 +1,21 @@
 -- DEMAND 3, proved. A message has one fate: what was answered with a failure, dropped or cut off has no success among its answers.
 -- Assumes nothing.
-use mathlib.Core.Path.{_≡_, refl, sym, _∙_}
+use mathlib.Core.Path.{_≡_, refl, sym}
 use mathlib.Core.Logic.{_⊎_, inl, inr, ⊎-elim}
 use mathlib.Core.Bool.{Bool, true, false, false≢true}
 use mathlib.Core.Option.{Option, none, some, Option·none-ne-some, Option·some-injective}
 use mathlib.Core.List.{List, [], _∷_}
-use Prim.Native.Nat.{ℕ, suc, _≤_}
+use Prim.Native.Nat.{ℕ, _≤_}
 use native.Mathlib.Omega.{arith}
 use borrow.Author.Tests.{eqb-true, eqb-false}
-use lib.Dec.{eqb}
 use Rattle.choice.specs.Pick.{pick}
 use Rattle.choice.proofs.Picks.{clash}
 use Rattle.strike.specs.Service.{DataSet, Result, fails, does, Call, start, opening, feed, close, aside, Check, passes, refuses, Service}
 use Rattle.strike.specs.Machine.{Fragment, command, dataset, fragmentIn, Input, idle, Outcome, ignores, waits, drops, asks, collect}
-use Rattle.strike.specs.Machine.{Answer, refused, done, told, ignored, wait, dropped, failure, success, Records, answered, carriedOut, fed, checked, step}
+use Rattle.strike.specs.Machine.{Answer, refused, done, told, ignored, wait, dropped, failure, success, Records, Step, answered, carriedOut, fed, checked, step}
 use Rattle.strike.specs.Messages.{mayBegin, unfinished, Role, outside, begins, continues, ends, roleOfFragment, Count, current, countAfter, messageOf, cutBy}
-use Rattle.strike.specs.Messages.{Event, struck, Fate, wasCutOff, strikeable, says, isOf, fateOf, roleIf, roleOf, eventOf, historyFrom, history, StrikeOut}
-use Rattle.strike.proofs.Simulation.{Fruitless, Quiet, strike-quiet}
+use Rattle.strike.specs.Messages.{Fate, wasCutOff, strikeable, says, isOf, fateOf, roleIf, roleOf, eventOf, historyFrom, history, StrikeOut}
+use Rattle.strike.proofs.Simulation.{Fruitless, Never, strike-fruitless}
 
 is-of : (i : ℕ) (x : Option ℕ) → isOf i x ≡ true → x ≡ some i
 unfolding isOf
@@ -35,11 +34,6 @@ picked false x i e = absurd (Option·none-ne-some i e)
 -- the current message is the last that began
 current-last : (n : Count) (i : ℕ) → current n ≡ some i → n .begun ≡ i
 current-last n i e = Option·some-injective (n .begun) i (picked (n .goesOn) (some (n .begun)) i e)
-
--- no success of message i
-abbrev Never : {Arg Response Told : Type 0} → ℕ → List (Event Arg Response Told) → Type 0
-Never i [] = Unit {0}
-Never i (e ∷ es) = (e .message ≡ some i → Fruitless (e .answer)) × Never i es
 
 -- message i is over: another has begun or, where it is the current one, all is idle
 abbrev Over : ℕ → Count → Input → Type 0
@@ -78,15 +72,12 @@ cut-over i ends input input′ n e = absurd (Option·none-ne-some i e)
 module _ (G : Service) where
   open Service G using (Core, Arg, Response, Told, check, context, room, reading, request)
 
-  -- what a call does with message i that is over: it is no success of it, and leaves it over
-  abbrev Onward : ℕ → Check → Records Core → Count → Call Arg → Type 0
-  Onward i x s n c =
-      (messageOf (roleIf G x s c) n ≡ some i → Fruitless (checked G x s c .answer))
-      × Over i (countAfter (roleIf G x s c) n) (checked G x s c .records .input)
+  -- a call in this role is no success of message i, and leaves it over
+  abbrev Onward : ℕ → Count → Role → Step Core Response Told → Type 0
+  Onward i n r x = (messageOf r n ≡ some i → Fruitless (x .answer)) × Over i (countAfter r n) (x .records .input)
 
   over-command : (i : ℕ) (s : Records Core) (n : Count) (last : Bool) (bytes : List ℕ) (b : Bool) → mayBegin (s .input) ≡ b → Over i n (s .input)
-      → (messageOf (pick b begins continues) n ≡ some i → Fruitless (fed G s (some (command last bytes)) .answer))
-      × Over i (countAfter (pick b begins continues) n) (fed G s (some (command last bytes)) .records .input)
+      → Onward i n (pick b begins continues) (fed G s (some (command last bytes)))
   unfolding messageOf countAfter mayBegin
   over-command i s n last bytes true b o = (
     λ q. absurd (omega (arith, Option·some-injective _ _ q)),
@@ -96,23 +87,15 @@ module _ (G : Service) where
       let no : current n ≡ some i → ⊥ = λ q. clash b (rw (o .1 q)) in
       (λ q. absurd (no q), (o .0, λ q. absurd (no q)))
 
-  over-data : (i : ℕ) (s : Records Core) (n : Count) (last : Bool) (bytes : List ℕ) → Over i n (s .input)
-      → (current n ≡ some i → Fruitless (fed G s (some (dataset last bytes)) .answer))
-      × Over i n (fed G s (some (dataset last bytes)) .records .input)
-  unfolding fed carriedOut collect
-  over-data i s n last bytes o = (λ q. rw (o .1 q) tt, (o .0, λ q. rw (o .1 q)))
-
-  over-fed : (i : ℕ) (s : Records Core) (n : Count) (f : Option Fragment) → Over i n (s .input)
-      → (messageOf (roleOfFragment (s .input) f) n ≡ some i → Fruitless (fed G s f .answer))
-      × Over i (countAfter (roleOfFragment (s .input) f) n) (fed G s f .records .input)
-  unfolding messageOf countAfter roleOfFragment fed
-  over-fed i s n none o = (λ q. absurd (Option·none-ne-some i q), (o .0, λ q. refl))
+  over-fed : (i : ℕ) (s : Records Core) (n : Count) (f : Option Fragment) → Over i n (s .input) → Onward i n (roleOfFragment (s .input) f) (fed G s f)
+  unfolding messageOf countAfter roleOfFragment fed carriedOut collect
+  over-fed i s n none o = (λ q. tt, (o .0, λ q. refl))
   over-fed i s n (some (command last bytes)) o = over-command i s n last bytes (mayBegin (s .input)) refl o
-  over-fed i s n (some (dataset last bytes)) o = over-data i s n last bytes o
+  over-fed i s n (some (dataset last bytes)) o = (λ q. rw (o .1 q) tt, (o .0, λ q. rw (o .1 q)))
 
-  over-checked : (i : ℕ) (x : Check) (s : Records Core) (n : Count) (c : Call Arg) → Over i n (s .input) → Onward i x s n c
+  over-checked : (i : ℕ) (x : Check) (s : Records Core) (n : Count) (c : Call Arg) → Over i n (s .input) → Onward i n (roleIf G x s c) (checked G x s c)
   unfolding messageOf countAfter roleIf checked
-  over-checked i (refuses m) s n c o = (λ q. absurd (Option·none-ne-some i q), o)
+  over-checked i (refuses m) s n c o = (λ q. tt, o)
   over-checked i passes s n (start a) o = (λ q. tt, (o .0, λ q. refl))
   over-checked i passes s n (opening a) o = (λ q. tt, (o .0, λ q. refl))
   over-checked i passes s n (feed bytes a) o = over-fed i s n (fragmentIn (context (s .core)) bytes) o
@@ -179,18 +162,7 @@ module _ (G : Service) where
   one-fate i [] s n h = tt
   one-fate i (c ∷ cs) s n h = fate-call i c cs s n _ _ _ refl refl h (one-fate i cs _ _)
 
-  -- what no message of the set did, no struck call did
-  struck-quiet : (S : ℕ → Bool) (x : Option ℕ) (a : Answer Response Told) → ((i : ℕ) → S i ≡ true → x ≡ some i → Fruitless a)
-      → struck S x ≡ true → Fruitless a
-  unfolding struck
-  struck-quiet S none a h e = absurd (false≢true e)
-  struck-quiet S (some i) a h e = h i e refl
-
-  never-quiet : (S : ℕ → Bool) (es : List (Event Arg Response Told)) → ((i : ℕ) → S i ≡ true → Never i es) → Quiet S es
-  never-quiet S [] h = tt
-  never-quiet S (e ∷ es) h = (struck-quiet S (e .message) (e .answer) (λ i q. h i q .0), never-quiet S es (λ i q. h i q .1))
-
   -- DEMAND 3
   pub strike-out : StrikeOut G
   unfolding StrikeOut history
-  strike-out s cs S h = strike-quiet G S s cs (never-quiet S (history G s cs) (λ i q. one-fate i cs s _ (h i q)))
+  strike-out s cs S h = strike-fruitless G S s cs (λ i q. one-fate i cs s _ (h i q))

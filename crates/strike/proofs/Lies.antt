@@ -1,9 +1,9 @@
 -- "Data lies in the message buffer from its start": the data collected so far, and the data set of a request when it is answered.
 -- Assumes nothing.
-use mathlib.Core.Path.{_≡_, refl, sym, _∙_, ap}
+use mathlib.Core.Path.{_≡_, refl, _∙_}
 use mathlib.Core.Bool.{Bool, true, false}
 use mathlib.Core.Option.{Option, none, some}
-use mathlib.Core.List.{List, [], _∷_, _++_, append-assoc}
+use mathlib.Core.List.{List, _++_, append-assoc}
 use Prim.Native.Nat.{ℕ, _+_, _≤_}
 use native.Mathlib.Omega.{arith}
 use borrow.Author.Tests.{leb-true}
@@ -16,7 +16,7 @@ use Rattle.octets.proofs.Laid.{length-laid}
 use Rattle.strike.specs.Service.{Reading, unreadable, alone, withData, DataSet, noData, whole, tooLong}
 use Rattle.strike.specs.Service.{Result, fails, does, feed, Check, passes, refuses, Service}
 use Rattle.strike.specs.Machine.{Fragment, command, dataset, Input, idle, inCommand, skippingCommand, inData, skippingData}
-use Rattle.strike.specs.Machine.{Outcome, ignores, waits, drops, asks, skips, reads, gathers, overflows, stores, collect, laidBy}
+use Rattle.strike.specs.Machine.{Outcome, ignores, waits, drops, asks, skips, reads, commandLimit, gathers, overflows, stores, collect, laidBy}
 use Rattle.strike.specs.Machine.{fragmentIn, Answer, refused, done, told, ignored, wait, dropped, failure, success, Records, Step, answered, carriedOut, fed, checked, step, laidIf, messageAfter}
 
 -- up to the end of what is laid stands what lay before it, and it
@@ -58,7 +58,7 @@ reads-lies withData c message = refl
 
 gathers-lies : (reading : List ℕ → Reading) (c : List ℕ) (last : Bool) (message : List ℕ) → OutcomeLies (gathers reading c last) message
 unfolding gathers
-gathers-lies reading c last message = cases (leb (length c) 1024) last
+gathers-lies reading c last message = cases (leb (length c) commandLimit) last
   where
     cases : (fits last : Bool) → OutcomeLies (pick fits (pick last (reads (reading c) c) (waits (inCommand c))) (skips last)) message
     cases true true = reads-lies (reading c) c message

@@ -1,7 +1,7 @@
 -- DEMAND 3 of an implementation: what it keeps is viewed as records, what the host hands over is read as a call, and each call does what
 -- the definition says. Leftovers in its buffers are what the view forgets.
 -- Assumes nothing.
-use mathlib.Core.Path.{_≡_, refl, sym, _∙_, ap, ap₂, subst}
+use mathlib.Core.Path.{_≡_, refl, sym, _∙_, ap, ap₂}
 use mathlib.Core.Bool.{Bool, true}
 use mathlib.Core.List.{List, [], _∷_, map}
 use Prim.Native.Nat.{ℕ}

@@ -12,7 +12,7 @@ use Rattle.strike.specs.Service.{Reading, DataSet, Result, fails, does, 
 use Rattle.strike.specs.Machine.{Fragment, command, dataset, fragmentIn, Input, idle, inCommand, skippingCommand, inData, skippingData}
 use Rattle.strike.specs.Machine.{Outcome, ignores, waits, drops, asks, gathers, collect}
 use Rattle.strike.specs.Machine.{Answer, refused, done, told, ignored, wait, dropped, failure, success, Records, Step, leaves, answered, carriedOut, fed, checked, step}
-use Rattle.strike.specs.Messages.{mayBegin, Role, begins, continues, roleOfFragment, Count, current, countAfter, messageOf, Event, struck, without, callsOf, answersOf}
+use Rattle.strike.specs.Messages.{mayBegin, begins, continues, roleOfFragment, Count, current, countAfter, messageOf, Event, struck, without, callsOf, answersOf}
 use Rattle.strike.specs.Messages.{roleIf, roleOf, eventOf, historyFrom, history, answers, after, Same}
 
 -- where a message may begin, a command fragment begins one, whatever stood there
@@ -36,10 +36,16 @@ Fruitless dropped = Unit {0}
 Fruitless (failure r d) = Unit {0}
 Fruitless (success r d) = ⊥
 
--- no call that is struck out succeeded
-abbrev pub Quiet : {Arg Response Told : Type 0} → (ℕ → Bool) → List (Event Arg Response Told) → Type 0
-Quiet S [] = Unit {0}
-Quiet S (e ∷ es) = (struck S (e .message) ≡ true → Fruitless (e .answer)) × Quiet S es
+-- no success of message i
+abbrev pub Never : {Arg Response Told : Type 0} → ℕ → List (Event Arg Response Told) → Type 0
+Never i [] = Unit {0}
+Never i (e ∷ es) = (e .message ≡ some i → Fruitless (e .answer)) × Never i es
+
+-- what holds for each message of the set holds for a struck call
+struck-of : {P : Type 0} (S : ℕ → Bool) (x : Option ℕ) → ((i : ℕ) → S i ≡ true → x ≡ some i → P) → struck S x ≡ true → P
+unfolding struck
+struck-of S none h e = absurd (false≢true e)
+struck-of S (some i) h e = h i e refl
 
 -- the inputs of the whole run and of the shorter one, by whether the current message is struck
 Tied : Bool → Input → Input → Type 0
@@ -188,15 +194,17 @@ module _ (G : Service) where
         let e = rest (step G t c .records) (k .tie) in
         (ap₂ _∷_ (sym (k .one-answer)) (e .0), e .1)
 
-    both-runs : (cs : List (Call Arg)) (n : Count) (s t : Records Core) → Tie n s t → Quiet S (historyFrom G s n cs)
+    both-runs : (cs : List (Call Arg)) (n : Count) (s t : Records Core) → Tie n s t → ((i : ℕ) → S i ≡ true → Never i (historyFrom G s n cs))
         → Ends s t cs (without S (historyFrom G s n cs))
     unfolding answers after historyFrom without eventOf
     both-runs [] n s t r q = (refl, sym (r .one-core))
     both-runs (c ∷ cs) n s t r q =
-        both-call n s t c cs _ (struck S (messageOf (roleOf G s c) n)) refl (q .0) r (λ u r′. both-runs cs _ _ u r′ (q .1))
+        both-call n s t c cs _ (struck S (messageOf (roleOf G s c) n)) refl (struck-of S _ (λ i e. q i e .0)) r
+        (λ u r′. both-runs cs _ _ u r′ (λ i e. q i e .1))
 
-    pub strike-quiet : (s : Records Core) (cs : List (Call Arg)) → Quiet S (history G s cs) → Same G s cs (without S (history G s cs))
+    pub strike-fruitless : (s : Records Core) (cs : List (Call Arg)) → ((i : ℕ) → S i ≡ true → Never i (history G s cs))
+        → Same G s cs (without S (history G s cs))
     unfolding history struck Tied
-    strike-quiet s cs q =
+    strike-fruitless s cs q =
         let e = both-runs cs (record { begun = 0; goesOn = false }) s s (record { one-core = refl; tied = refl }) q in
         record { same-answers = e .0; same-core = e .1 }

@@ -2,8 +2,8 @@
 -- message ended, and what differs when the two runs end. Then the fakes of it.
 -- Assumes nothing.
 use mathlib.Core.Path.{_≡_, refl}
-use mathlib.Core.Bool.{Bool, true, false, false≢true}
-use mathlib.Core.Option.{Option, none, some}
+use mathlib.Core.Bool.{Bool, true, false}
+use mathlib.Core.Option.{none, some}
 use mathlib.Core.List.{List, [], _∷_, map}
 use Prim.Native.Nat.{ℕ, suc, _+_}
 use lib.Dec.{eqb}
@@ -13,9 +13,9 @@ use Rattle.octets.specs.Octets.{bigNumberAt}
 use Rattle.strike.specs.Service.{Reading, unreadable, alone, withData, DataSet, noData, whole, tooLong, Result, fails, does}
 use Rattle.strike.specs.Service.{Call, start, opening, feed, close, aside, Check, passes, refuses, Service}
 use Rattle.strike.specs.Machine.{headerWrong, fragmentIn, idle, inData, skips, reads, gathers, overflows, stores, collect, laidBy}
-use Rattle.strike.specs.Machine.{Answer, refused, done, told, ignored, wait, dropped, failure, success, Records, answered, carriedOut, fed, checked, step, laidIf, messageAfter}
-use Rattle.strike.specs.Messages.{mayBegin, unfinished, roleOfFragment, countAfter, messageOf, cutBy, Event, struck, without, callsOf, answersOf}
-use Rattle.strike.specs.Messages.{Fate, succeeded, failed, wasDropped, wasCutOff, unsettled, strikeable, says, isOf, fateOf}
+use Rattle.strike.specs.Machine.{refused, done, told, ignored, wait, dropped, failure, success, Records, answered, carriedOut, fed, checked, step, laidIf, messageAfter}
+use Rattle.strike.specs.Messages.{mayBegin, unfinished, roleOfFragment, countAfter, messageOf, cutBy, Event, struck, without, callsOf}
+use Rattle.strike.specs.Messages.{succeeded, failed, wasDropped, wasCutOff, unsettled, strikeable, says, isOf, fateOf}
 use Rattle.strike.specs.Messages.{roleIf, roleOf, eventOf, historyFrom, history, answers, after, Same, StrikeOut}
 use Rattle.strike.proofs.Fate.{strike-out}
 use Rattle.strike.proofs.Fakes.{dropsAll, failsAll, oneReply, storesNone, storesFirst}

@@ -1,7 +1,7 @@
 -- Document 01, "A call refused" and "Collecting a message": one call, over any service.
-use mathlib.Core.Bool.{Bool, true, false}
+use mathlib.Core.Bool.{Bool}
 use mathlib.Core.Option.{Option, none, some}
-use mathlib.Core.List.{List, [], _∷_, _++_}
+use mathlib.Core.List.{List, [], _++_}
 use Prim.Native.Nat.{ℕ, _+_, _/_, _%_}
 use lib.Dec.{eqb, leb, ltb}
 use lib.ListN.{length, getD, drop}
@@ -62,9 +62,13 @@ reads unreadable c = drops
 reads alone c = asks c noData
 reads withData c = waits (inData c [])
 
+-- the bytes of a command set
+abbrev pub commandLimit : ℕ
+commandLimit = 1024
+
 -- the command bytes so far
 unfoldable pub gathers : (List ℕ → Reading) → List ℕ → Bool → Outcome
-gathers reading c last = pick (leb (length c) 1024) (pick last (reads (reading c) c) (waits (inCommand c))) (skips last)
+gathers reading c last = pick (leb (length c) commandLimit) (pick last (reads (reading c) c) (waits (inCommand c))) (skips last)
 
 -- past the message buffer all is skipped to the last one, then answered
 unfoldable pub overflows : List ℕ → Bool → Outcome
