@@ -10,13 +10,21 @@ use Rattle.strike.specs.Machine.{Answer, Records, step}
 use Rattle.strike.specs.Messages.{Count, Event, without, callsOf, answersOf, strikeable, fateOf, eventOf, historyFrom, history, answers, after, Same, StrikeOut}
 use Rattle.strike.proofs.Fate.{strike-out}
 
+-- the events of a run have its answers
+history-answers : (G : Service) (cs : List (Call (G .Arg))) (s : Records (G .Core)) (n : Count) → answersOf (historyFrom G s n cs) ≡ answers G s cs
+unfolding historyFrom answers eventOf
+history-answers G [] s n = refl
+history-answers G (c ∷ cs) s n = ap (λ (rest : List (Answer (G .Response) (G .Told))). step G s c .answer ∷ rest) (history-answers G cs _ _)
+
 module _ (G : Service) (State Handed : Type 0) (Good : State → Type 0) (view : State → Records (G .Core)) (read : Handed → Call (G .Arg))
     (act : State → Handed → State) (reply : State → Handed → Answer (G .Response) (G .Told)) where
+  open Service G using (Core, Arg, Response, Told)
+
   unfoldable pub acts : State → List Handed → State
   acts s [] = s
   acts s (h ∷ hs) = acts (act s h) hs
 
-  unfoldable pub replies : State → List Handed → List (Answer (G .Response) (G .Told))
+  unfoldable pub replies : State → List Handed → List (Answer Response Told)
   replies s [] = []
   replies s (h ∷ hs) = reply s h ∷ replies (act s h) hs
 
@@ -26,42 +34,35 @@ module _ (G : Service) (State Handed : Type 0) (Good : State → Type 0) (view :
     pub right-view : (s : State) (h : Handed) → Good s → view (act s h) ≡ step G (view s) (read h) .records
     pub right-good : (s : State) (h : Handed) → Good s → Good (act s h)
 
-  module _ (right : Right) where
-    run-replies : (hs : List Handed) (s : State) → Good s → replies s hs ≡ answers G (view s) (map read hs)
-    unfolding replies answers
-    run-replies [] s g = refl
-    run-replies (h ∷ hs) s g =
-        ap₂ _∷_ (right .right-reply s h g)
-        (run-replies hs (act s h) (right .right-good s h g) ∙ ap (λ (r : Records (G .Core)). answers G r (map read hs)) (right .right-view s h g))
+  -- the events are those of the whole run hs; the run gs of what is left gets the same replies, and ends with the same core
+  pub record SameOf (s : State) (hs gs : List Handed) (events left : List (Event Arg Response Told)) : Type 0 where
+    pub whole-replies : replies s hs ≡ answersOf events
+    pub same-replies : replies s gs ≡ answersOf left
+    pub same-core : view (acts s gs) .core ≡ view (acts s hs) .core
 
-    run-view : (hs : List Handed) (s : State) → Good s → view (acts s hs) ≡ after G (view s) (map read hs)
-    unfolding acts after
-    run-view [] s g = refl
-    run-view (h ∷ hs) s g =
-        run-view hs (act s h) (right .right-good s h g) ∙ ap (λ (r : Records (G .Core)). after G r (map read hs)) (right .right-view s h g)
+  run-replies : Right → (hs : List Handed) (s : State) → Good s → replies s hs ≡ answers G (view s) (map read hs)
+  unfolding replies answers
+  run-replies right [] s g = refl
+  run-replies right (h ∷ hs) s g =
+      ap₂ _∷_ (right .right-reply s h g)
+      (run-replies right hs (act s h) (right .right-good s h g) ∙ ap (λ (r : Records Core). answers G r (map read hs)) (right .right-view s h g))
 
-    -- the events of a run have its answers
-    run-answers : (cs : List (Call (G .Arg))) (s : Records (G .Core)) (n : Count) → answersOf (historyFrom G s n cs) ≡ answers G s cs
-    unfolding historyFrom answers eventOf
-    run-answers [] s n = refl
-    run-answers (c ∷ cs) s n = ap (λ (rest : List (Answer (G .Response) (G .Told))). step G s c .answer ∷ rest) (run-answers cs _ _)
+  run-core : Right → (hs : List Handed) (s : State) → Good s → view (acts s hs) .core ≡ after G (view s) (map read hs) .core
+  unfolding acts after
+  run-core right [] s g = refl
+  run-core right (h ∷ hs) s g =
+      run-core right hs (act s h) (right .right-good s h g) ∙ ap (λ (r : Records Core). after G r (map read hs) .core) (right .right-view s h g)
 
-    -- the events are those of the whole run; what is left of them gets the same replies, and the cores end the same
-    pub record SameOf (s : State) (hs : List Handed) (events left : List (Event (G .Arg) (G .Response) (G .Told))) (gs : List Handed) : Type 0 where
-      pub whole-replies : replies s hs ≡ answersOf events
-      pub same-replies : replies s gs ≡ answersOf left
-      pub same-end : view (acts s gs) .core ≡ view (acts s hs) .core
-
-    -- gs is handed over where the calls that are left are made: bytes of the buffers lent may differ, for all that is read of them
-    pub strike-out-of : (s : State) → Good s → (hs : List Handed) (S : ℕ → Bool)
-        → ((i : ℕ) → S i ≡ true → strikeable (fateOf i (history G (view s) (map read hs))) ≡ true)
-        → (gs : List Handed) → map read gs ≡ callsOf (without S (history G (view s) (map read hs)))
-        → SameOf s hs (history G (view s) (map read hs)) (without S (history G (view s) (map read hs))) gs
-    unfolding StrikeOut history
-    strike-out-of s g hs S h gs e =
-        let x : Same G (view s) (map read hs) (without S (history G (view s) (map read hs))) = strike-out G (view s) (map read hs) S h in
-        record {
-          whole-replies = run-replies hs s g ∙ sym (run-answers (map read hs) (view s) _);
-          same-replies = run-replies gs s g ∙ rw e (x .same-answers);
-          same-end = ap (λ (r : Records (G .Core)). r .core) (run-view gs s g) ∙ rw e (x .same-core) ∙ sym (ap (λ (r : Records (G .Core)). r .core) (run-view hs s g));
-        }
+  -- gs may be any run that is read as the calls that are left: what else is handed over with them may differ
+  pub strike-out-of : Right → (s : State) → Good s → (hs : List Handed) (S : ℕ → Bool)
+      → ((i : ℕ) → S i ≡ true → strikeable (fateOf i (history G (view s) (map read hs))) ≡ true)
+      → (gs : List Handed) → map read gs ≡ callsOf (without S (history G (view s) (map read hs)))
+      → SameOf s hs gs (history G (view s) (map read hs)) (without S (history G (view s) (map read hs)))
+  unfolding StrikeOut history
+  strike-out-of right s g hs S h gs e =
+      let x : Same G (view s) (map read hs) (without S (history G (view s) (map read hs))) = strike-out G (view s) (map read hs) S h in
+      record {
+        whole-replies = run-replies right hs s g ∙ sym (history-answers G (map read hs) (view s) _);
+        same-replies = run-replies right gs s g ∙ rw e (x .same-answers);
+        same-core = run-core right gs s g ∙ rw e (x .same-core) ∙ sym (run-core right hs s g);
+      }

@@ -4,7 +4,7 @@
 use mathlib.Core.Path.{_≡_, refl}
 use mathlib.Core.Bool.{Bool, true, false}
 use mathlib.Core.Option.{none, some}
-use mathlib.Core.List.{List, [], _∷_, map}
+use mathlib.Core.List.{List, [], _∷_, map, map-id}
 use Prim.Native.Nat.{ℕ, suc, _+_}
 use lib.Dec.{eqb}
 use lib.ListN.{length, getD}
@@ -13,11 +13,11 @@ use Rattle.octets.specs.Octets.{bigNumberAt}
 use Rattle.strike.specs.Service.{Reading, unreadable, alone, withData, DataSet, noData, whole, tooLong, Result, fails, does}
 use Rattle.strike.specs.Service.{Call, start, opening, feed, close, aside, Check, passes, refuses, Service}
 use Rattle.strike.specs.Machine.{headerWrong, fragmentIn, idle, inData, skips, reads, gathers, overflows, stores, collect, laidBy}
-use Rattle.strike.specs.Machine.{refused, done, told, ignored, wait, dropped, failure, success, Records, answered, carriedOut, fed, checked, step, laidIf, messageAfter}
+use Rattle.strike.specs.Machine.{Answer, refused, done, told, ignored, wait, dropped, failure, success, Records, answered, carriedOut, fed, checked, step, laidIf, messageAfter}
 use Rattle.strike.specs.Messages.{mayBegin, unfinished, roleOfFragment, countAfter, messageOf, cutBy, Event, struck, without, callsOf}
 use Rattle.strike.specs.Messages.{succeeded, failed, wasDropped, wasCutOff, unsettled, strikeable, says, isOf, fateOf}
-use Rattle.strike.specs.Messages.{roleIf, roleOf, eventOf, historyFrom, history, answers, after, Same, StrikeOut}
-use Rattle.strike.proofs.Fate.{strike-out}
+use Rattle.strike.specs.Messages.{roleIf, roleOf, eventOf, historyFrom, history, answers, after}
+use Rattle.strike.proofs.Refine.{acts, Right, SameOf, strike-out-of}
 use Rattle.strike.proofs.Fakes.{dropsAll, failsAll, oneReply, storesNone, storesFirst}
 
 -- is it open, how long is the message buffer, what has been sold, and how often was that asked
@@ -113,17 +113,32 @@ chosen i = both (strikeable (fateOf i (history shop shut calls))) (not (either (
 abbrev left : List (Event ℕ ℕ ℕ)
 left = without chosen (history shop shut calls)
 
--- the message buffer after a run
-leftover : Records Shop → List (Call ℕ) → List ℕ → List ℕ
-leftover s [] message = message
-leftover s (start n ∷ cs) message = leftover (step shop s (start n) .records) cs message
-leftover s (opening n ∷ cs) message = leftover (step shop s (opening n) .records) cs message
-leftover s (feed bytes n ∷ cs) message = leftover (step shop s (feed bytes n) .records) cs (messageAfter shop s bytes n message)
-leftover s (close n ∷ cs) message = leftover (step shop s (close n) .records) cs message
-leftover s (aside n ∷ cs) message = leftover (step shop s (aside n) .records) cs message
+-- the shop with its message buffer, as an implementation: the view forgets the leftovers
+record Till : Type 0 where
+  records : Records Shop
+  message : List ℕ
 
-abbrev lent : List ℕ
-lent = 9 ∷ 9 ∷ 9 ∷ 9 ∷ []
+abbrev messageAt : Records Shop → Call ℕ → List ℕ → List ℕ
+messageAt s (start n) message = message
+messageAt s (opening n) message = message
+messageAt s (feed bytes n) message = messageAfter shop s bytes n message
+messageAt s (close n) message = message
+messageAt s (aside n) message = message
+
+abbrev act : Till → Call ℕ → Till
+act t c = record { records = step shop (t .records) c .records; message = messageAt (t .records) c (t .message) }
+
+abbrev reply : Till → Call ℕ → Answer ℕ ℕ
+reply t c = step shop (t .records) c .answer
+
+right : Right shop Till (Call ℕ) (λ t. Unit {0}) (λ t. t .records) (λ c. c) act reply
+right = record { right-reply = λ t c g. refl; right-view = λ t c g. refl; right-good = λ t c g. tt }
+
+abbrev till : Till
+till = record { records = shut; message = 9 ∷ 9 ∷ 9 ∷ 9 ∷ [] }
+
+abbrev ends : List (Call ℕ) → Till
+ends cs = acts shop Till (Call ℕ) (λ t. Unit {0}) (λ t. t .records) (λ c. c) act reply till cs
 
 -- a message, and fragments after a close and a start
 abbrev closing : List (Call ℕ)
@@ -159,12 +174,12 @@ record Computed : Type 0 where
       answers shop shut (callsOf left)
       ≡ done ∷ ignored ∷ wait ∷ wait ∷ told 1 ∷ refused 2 ∷ refused 3 ∷ wait ∷ success 3 (whole (1 ∷ 2 ∷ [])) ∷ wait ∷ wait ∷ told 3 ∷ []
   -- one core at the end, but not one input, and not one message buffer
-  all-end : after shop shut calls ≡ record { core = record { isOpen = true; space = 4; sold = 3; looks = 2 }; input = idle }
+  all-end :
+      ends calls
+      ≡ record { records = record { core = record { isOpen = true; space = 4; sold = 3; looks = 2 }; input = idle }; message = 4 ∷ 2 ∷ 6 ∷ 7 ∷ [] }
   left-end :
-      after shop shut (callsOf left)
-      ≡ record { core = record { isOpen = true; space = 4; sold = 3; looks = 2 }; input = inData (3 ∷ []) (4 ∷ []) }
-  all-leftover : leftover shut calls lent ≡ 4 ∷ 2 ∷ 6 ∷ 7 ∷ []
-  left-leftover : leftover shut (callsOf left) lent ≡ 4 ∷ 2 ∷ 9 ∷ 9 ∷ []
+      ends (callsOf left)
+      ≡ record { records = record { core = record { isOpen = true; space = 4; sold = 3; looks = 2 }; input = inData (3 ∷ []) (4 ∷ []) }; message = 4 ∷ 2 ∷ 9 ∷ 9 ∷ [] }
   -- a success must stay: without message 4 less is sold
   success-missed : after shop shut (callsOf (without (λ i. eqb i 4) (history shop shut calls))) .core .sold ≡ 1
   -- a close and a start end a message
@@ -180,7 +195,7 @@ record Computed : Type 0 where
   stores-first : answers (storesFirst shop) fake twice ≡ done ∷ success 2 noData ∷ success 3 noData ∷ told 2 ∷ []
 
 computed : Computed
-unfolding bigNumberAt headerWrong fragmentIn skips reads gathers overflows stores collect laidBy answered carriedOut fed checked step laidIf messageAfter mayBegin unfinished roleOfFragment countAfter messageOf cutBy struck without strikeable says isOf fateOf roleIf roleOf eventOf historyFrom history answers after leftover
+unfolding bigNumberAt headerWrong fragmentIn skips reads gathers overflows stores collect laidBy answered carriedOut fed checked step laidIf messageAfter mayBegin unfinished roleOfFragment countAfter messageOf cutBy struck without strikeable says isOf fateOf roleIf roleOf eventOf historyFrom history answers after acts
 computed =
     record {
       all-answers = refl;
@@ -190,8 +205,6 @@ computed =
       answers-left = refl;
       all-end = refl;
       left-end = refl;
-      all-leftover = refl;
-      left-leftover = refl;
       success-missed = refl;
       closed-messages = refl;
       right-answers = refl;
@@ -207,6 +220,7 @@ both-true true b h = refl
 both-true false b h = h
 
 -- the theorem, at this run
-struck-out : Same shop shut calls left
-unfolding StrikeOut
-struck-out = strike-out shop shut calls chosen (λ i h. both-true _ _ h)
+till-struck-out : SameOf shop Till (Call ℕ) (λ t. Unit {0}) (λ t. t .records) (λ c. c) act reply till calls (callsOf left) (history shop shut calls) left
+till-struck-out =
+    strike-out-of shop Till (Call ℕ) (λ t. Unit {0}) (λ t. t .records) (λ c. c) act reply right till tt calls chosen (λ i h. both-true _ _ h)
+    (callsOf left) (map-id (callsOf left))

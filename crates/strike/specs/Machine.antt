@@ -14,7 +14,7 @@ use Rattle.strike.specs.Service.{Call, start, opening, feed, close, asid
 pub data Fragment : Type 0 where
   command dataset : Bool → List ℕ → Fragment
 
--- n of a fragment's header, and its context and control byte
+-- a header: n, the context byte, the control byte
 abbrev pub lengthTold : List ℕ → ℕ
 lengthTold bytes = bigNumberAt 4 bytes 0
 
@@ -37,8 +37,7 @@ fragmentIn context bytes =
     pick (headerWrong context bytes) none
     (some (pick (eqb (controlByte bytes % 2) 1) command dataset (eqb (controlByte bytes / 2 % 2) 1) (drop 6 bytes)))
 
--- The five states of collecting: in command with its bytes so far; in data with the command and the data bytes so far; skipping data with
--- the command.
+-- the five states: in command with the bytes so far, in data with the command and the data so far, skipping data with the command
 pub data Input : Type 0 where
   idle : Input
   inCommand : List ℕ → Input
@@ -62,7 +61,7 @@ reads unreadable c = drops
 reads alone c = asks c noData
 reads withData c = waits (inData c [])
 
--- the bytes of a command set
+-- the most bytes of a command set
 abbrev pub commandLimit : ℕ
 commandLimit = 1024
 
@@ -100,8 +99,7 @@ laidBy room (inCommand c) f message = message
 laidBy room skippingCommand f message = message
 laidBy room (skippingData c) f message = message
 
--- What a call returns and writes: done is 0. A response stands with the data set that it answers, since its note may name a part of it in
--- the message buffer. A success may be a warning.
+-- what a call returns and writes; done is 0, a success may be a warning, and the note of a response may name a part of its data set
 pub data Answer (Response Told : Type 0) : Type 0 where
   refused : ℕ → Answer Response Told
   done : Answer Response Told

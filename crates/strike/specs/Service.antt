@@ -1,4 +1,4 @@
--- Document 01, "Requests", as far as collecting needs it: what the five calls are over. A failure changes no record, by its form.
+-- Document 01, "Requests": what collecting needs of it. A failure changes no record, by its form.
 use mathlib.Core.List.{List}
 use Prim.Native.Nat.{ℕ}
 
@@ -17,22 +17,23 @@ pub data Result (Core Response : Type 0) : Type 0 where
   fails : Response → Result Core Response
   does : Core → Response → Result Core Response
 
--- The calls: start, open, feed one fragment, close, and any call outside messages, such as take. Arg is what else is handed over, the
--- lengths of the lent buffers included.
+-- start, open, feed one fragment, close, and a call outside messages, such as take; each with what else is handed over
 pub data Call (Arg : Type 0) : Type 0 where
   start opening : Arg → Call Arg
   feed : List ℕ → Arg → Call Arg
   close aside : Arg → Call Arg
 
--- the lines of "A call refused" but the fifth: none of them holds, or the number of the first that does
+-- "A call refused", all lines but the fifth: none of them holds, or the number of the first that does
 pub data Check : Type 0 where
   passes : Check
   refuses : ℕ → Check
 
--- Core is all that the records hold but the message half collected.
 pub record Service : Type 1 where
+  -- all that the records hold but the message half collected
   pub Core : Type 0
+  -- what is handed over with a call beside a fragment, the lengths of lent buffers included
   pub Arg : Type 0
+  -- what is answered to a request, and to a call outside messages
   pub Response : Type 0
   pub Told : Type 0
   pub check : Core → Call Arg → Check
