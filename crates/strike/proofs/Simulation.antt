@@ -1,7 +1,7 @@
 -- The whole run and the run without struck messages, side by side. They have one core throughout; while the current message is kept they
 -- have one input, and while it is struck the shorter run stands where a message may begin.
 -- Assumes nothing.
-use mathlib.Core.Path.{_≡_, refl, sym, _∙_, ap, ap₂, subst}
+use mathlib.Core.Path.{_≡_, refl, sym, ap, ap₂, subst}
 use mathlib.Core.Bool.{Bool, true, false, false≢true}
 use mathlib.Core.Option.{Option, none, some}
 use mathlib.Core.List.{List, [], _∷_}
@@ -68,7 +68,7 @@ both-begin true i j h b = h
 both-begin false i j h b = rw h at b
 
 module _ (G : Service) where
-  open Service G using (Core, Arg, Response, Told, check, opened, closed, asked, context, room, reading, request)
+  open Service G using (Core, Arg, Response, Told, check, context, request)
 
   answered-core : (k : Core) (d : DataSet) (r : Result Core Response) → Fruitless (answered G k d r .answer) → answered G k d r .records .core ≡ k
   unfolding answered
@@ -81,6 +81,10 @@ module _ (G : Service) where
   carried-core k (waits i) h = refl
   carried-core k drops h = refl
   carried-core k (asks c d) h = answered-core k d (request k c d) h
+
+  -- the records of the shorter run: the same core, another input
+  abbrev at : Records Core → Input → Records Core
+  at s j = record { core = s .core; input = j }
 
   module _ (S : ℕ → Bool) where
     record Tie (n : Count) (s t : Records Core) : Type 0 where
@@ -97,101 +101,87 @@ module _ (G : Service) where
         subst (λ (z : Step Core Response Told). Kept n x z) e
         (record { one-answer = refl; tie = record { one-core = refl; tied = tied-kept _ _ h } })
 
-    kept-idle : (n : Count) (k k′ : Core) (a : Answer Response Told) → k ≡ k′ → Kept n (leaves k idle a) (leaves k′ idle a)
-    kept-idle n k k′ a e = record { one-answer = refl; tie = record { one-core = e; tied = tied-idle _ } }
+    kept-idle : (n : Count) (k : Core) (a : Answer Response Told) → Kept n (leaves k idle a) (leaves k idle a)
+    kept-idle n k a = record { one-answer = refl; tie = record { one-core = refl; tied = tied-idle _ } }
 
-    -- a fragment that goes on with a kept message
-    keep-continues : (n : Count) (s t : Records Core) (f : Fragment) → struck S (current n) ≡ false → Tie n s t
-        → Kept n (fed G s (some f)) (fed G t (some f))
-    unfolding Tied fed
-    keep-continues n s t f h r =
-        let i : s .input ≡ t .input = rw h at (r .tied) in
-        kept-same n _ _ h (ap₂ (λ (k : Core) (j : Input). carriedOut G k (collect reading (room k) j f)) (r .one-core) i)
+    module _ (n : Count) (s : Records Core) (j : Input) (r : Tied (struck S (current n)) (s .input) j) where
+      -- a fragment that goes on with a kept message
+      keep-continues : (f : Fragment) → struck S (current n) ≡ false → Kept n (fed G s (some f)) (fed G (at s j) (some f))
+      unfolding Tied
+      keep-continues f h =
+          let i : s .input ≡ j = rw h at r in
+          kept-same n _ _ h (ap (λ (x : Input). fed G (at s x) (some f)) i)
 
-    -- a command fragment, which begins a kept message or goes on with one
-    keep-command : (n : Count) (s t : Records Core) (last : Bool) (bytes : List ℕ) (b : Bool) → mayBegin (s .input) ≡ b
-        → struck S (messageOf (pick b begins continues) n) ≡ false → Tie n s t
-        → Kept (countAfter (pick b begins continues) n) (fed G s (some (command last bytes))) (fed G t (some (command last bytes)))
-    unfolding messageOf countAfter fed
-    keep-command n s t last bytes true b h r =
-        kept-same _ _ _ h
-        (rw (collect-begins _ _ (s .input) last bytes b, collect-begins _ _ (t .input) last bytes (both-begin _ (s .input) (t .input) (r .tied) b), r .one-core))
-    keep-command n s t last bytes false b h r = keep-continues n s t (command last bytes) h r
+      -- a command fragment, which begins a kept message or goes on with one
+      keep-command : (last : Bool) (bytes : List ℕ) (b : Bool) → mayBegin (s .input) ≡ b → struck S (messageOf (pick b begins continues) n) ≡ false
+          → Kept (countAfter (pick b begins continues) n) (fed G s (some (command last bytes))) (fed G (at s j) (some (command last bytes)))
+      unfolding messageOf countAfter fed
+      keep-command last bytes true b h =
+          kept-same _ _ _ h (rw (collect-begins _ _ (s .input) last bytes b, collect-begins _ _ j last bytes (both-begin _ (s .input) j r b)))
+      keep-command last bytes false b h = keep-continues (command last bytes) h
 
-    keep-fed : (n : Count) (s t : Records Core) (f : Option Fragment) → struck S (messageOf (roleOfFragment (s .input) f) n) ≡ false → Tie n s t
-        → Kept (countAfter (roleOfFragment (s .input) f) n) (fed G s f) (fed G t f)
-    unfolding messageOf countAfter roleOfFragment fed
-    keep-fed n s t none h r = kept-idle n _ _ _ (ap closed (r .one-core))
-    keep-fed n s t (some (command last bytes)) h r = keep-command n s t last bytes (mayBegin (s .input)) refl h r
-    keep-fed n s t (some (dataset last bytes)) h r = keep-continues n s t (dataset last bytes) h r
+      keep-fed : (f : Option Fragment) → struck S (messageOf (roleOfFragment (s .input) f) n) ≡ false
+          → Kept (countAfter (roleOfFragment (s .input) f) n) (fed G s f) (fed G (at s j) f)
+      unfolding messageOf countAfter roleOfFragment fed
+      keep-fed none h = kept-idle n _ _
+      keep-fed (some (command last bytes)) h = keep-command last bytes (mayBegin (s .input)) refl h
+      keep-fed (some (dataset last bytes)) h = keep-continues (dataset last bytes) h
 
-    -- a call that is kept
-    keep-checked : (n : Count) (s t : Records Core) (x : Check) (c : Call Arg) → struck S (messageOf (roleIf G x s c) n) ≡ false → Tie n s t
-        → Kept (countAfter (roleIf G x s c) n) (checked G x s c) (checked G x t c)
-    unfolding messageOf countAfter roleIf checked
-    keep-checked n s t (refuses m) c h r = record { one-answer = refl; tie = r }
-    keep-checked n s t passes (start a) h r = kept-idle _ _ _ _ refl
-    keep-checked n s t passes (opening a) h r = kept-idle _ _ _ _ (ap (λ (k : Core). opened k a) (r .one-core))
-    keep-checked n s t passes (feed bytes a) h r =
-        subst (λ (k : Core). Kept (countAfter (roleOfFragment (s .input) (fragmentIn (context (s .core)) bytes)) n) (fed G s (fragmentIn (context (s .core)) bytes)) (fed G t (fragmentIn (context k) bytes))) (r .one-core)
-        (keep-fed n s t (fragmentIn (context (s .core)) bytes) h r)
-    keep-checked n s t passes (close a) h r = kept-idle _ _ _ _ (ap closed (r .one-core))
-    keep-checked n s t passes (aside a) h r =
-        record {
-          one-answer = ap (λ (k : Core). told (asked k a .1)) (r .one-core);
-          tie = record { one-core = ap (λ (k : Core). asked k a .0) (r .one-core); tied = r .tied };
-        }
+      -- a call that is kept
+      keep-checked : (x : Check) (c : Call Arg) → struck S (messageOf (roleIf G x s c) n) ≡ false
+          → Kept (countAfter (roleIf G x s c) n) (checked G x s c) (checked G x (at s j) c)
+      unfolding messageOf countAfter roleIf checked
+      keep-checked (refuses m) c h = record { one-answer = refl; tie = record { one-core = refl; tied = r } }
+      keep-checked passes (start a) h = kept-idle _ _ _
+      keep-checked passes (opening a) h = kept-idle _ _ _
+      keep-checked passes (feed bytes a) h = keep-fed (fragmentIn (context (s .core)) bytes) h
+      keep-checked passes (close a) h = kept-idle _ _ _
+      keep-checked passes (aside a) h = record { one-answer = refl; tie = record { one-core = refl; tied = r } }
 
-    keep-step : (n : Count) (s t : Records Core) (c : Call Arg) → struck S (messageOf (roleOf G s c) n) ≡ false → Tie n s t
-        → Kept (countAfter (roleOf G s c) n) (step G s c) (step G t c)
-    unfolding roleOf step
-    keep-step n s t c h r =
-        subst (λ (k : Core). Kept (countAfter (roleOf G s c) n) (step G s c) (checked G (check k c) t c)) (r .one-core)
-        (keep-checked n s t (check (s .core) c) c h r)
+      -- a fragment that is struck out
+      skip-fragment : (m : Count) (f : Fragment) → struck S (current m) ≡ true → mayBegin j ≡ true → Fruitless (fed G s (some f) .answer)
+          → Tie m (fed G s (some f) .records) (at s j)
+      unfolding Tied fed
+      skip-fragment m f h b q = record { one-core = carried-core _ _ q; tied = rw h b }
 
-    -- a fragment that is struck out
-    skip-fed : (n m : Count) (s t : Records Core) (f : Fragment) → struck S (current m) ≡ true → mayBegin (t .input) ≡ true
-        → Fruitless (fed G s (some f) .answer) → Tie n s t → Tie m (fed G s (some f) .records) t
-    unfolding Tied fed
-    skip-fed n m s t f h b q r = record { one-core = carried-core _ _ q ∙ r .one-core; tied = rw h b }
+      skip-command : (last : Bool) (bytes : List ℕ) (b : Bool) → mayBegin (s .input) ≡ b → struck S (messageOf (pick b begins continues) n) ≡ true
+          → Fruitless (fed G s (some (command last bytes)) .answer)
+          → Tie (countAfter (pick b begins continues) n) (fed G s (some (command last bytes)) .records) (at s j)
+      unfolding Tied messageOf countAfter
+      skip-command last bytes true b h q = skip-fragment _ (command last bytes) h (both-begin (struck S (current n)) (s .input) j r b) q
+      skip-command last bytes false b h q = skip-fragment n (command last bytes) h (rw h at r) q
 
-    skip-command : (n : Count) (s t : Records Core) (last : Bool) (bytes : List ℕ) (b : Bool) → mayBegin (s .input) ≡ b
-        → struck S (messageOf (pick b begins continues) n) ≡ true → Fruitless (fed G s (some (command last bytes)) .answer) → Tie n s t
-        → Tie (countAfter (pick b begins continues) n) (fed G s (some (command last bytes)) .records) t
-    unfolding Tied messageOf countAfter
-    skip-command n s t last bytes true b h q r = skip-fed n _ s t (command last bytes) h (both-begin (struck S (current n)) _ _ (r .tied) b) q r
-    skip-command n s t last bytes false b h q r = skip-fed n n s t _ h (rw h at (r .tied)) q r
+      skip-fed : (f : Option Fragment) → struck S (messageOf (roleOfFragment (s .input) f) n) ≡ true → Fruitless (fed G s f .answer)
+          → Tie (countAfter (roleOfFragment (s .input) f) n) (fed G s f .records) (at s j)
+      unfolding Tied struck messageOf countAfter roleOfFragment
+      skip-fed none h q = absurd (false≢true h)
+      skip-fed (some (command last bytes)) h q = skip-command last bytes (mayBegin (s .input)) refl h q
+      skip-fed (some (dataset last bytes)) h q = skip-fragment n (dataset last bytes) h (rw h at r) q
 
-    skip-option : (n : Count) (s t : Records Core) (f : Option Fragment) → struck S (messageOf (roleOfFragment (s .input) f) n) ≡ true
-        → Fruitless (fed G s f .answer) → Tie n s t → Tie (countAfter (roleOfFragment (s .input) f) n) (fed G s f .records) t
-    unfolding Tied struck messageOf countAfter roleOfFragment
-    skip-option n s t none h q r = absurd (false≢true h)
-    skip-option n s t (some (command last bytes)) h q r = skip-command n s t last bytes (mayBegin (s .input)) refl h q r
-    skip-option n s t (some (dataset last bytes)) h q r = skip-fed n n s t (dataset last bytes) h (rw h at (r .tied)) q r
-
-    skip-checked : (n : Count) (s t : Records Core) (x : Check) (c : Call Arg) → struck S (messageOf (roleIf G x s c) n) ≡ true
-        → Fruitless (checked G x s c .answer) → Tie n s t → Tie (countAfter (roleIf G x s c) n) (checked G x s c .records) t
-    unfolding struck messageOf countAfter roleIf checked
-    skip-checked n s t (refuses m) c h q r = absurd (false≢true h)
-    skip-checked n s t passes (start a) h q r = absurd (false≢true h)
-    skip-checked n s t passes (opening a) h q r = absurd (false≢true h)
-    skip-checked n s t passes (feed bytes a) h q r = skip-option n s t (fragmentIn (context (s .core)) bytes) h q r
-    skip-checked n s t passes (close a) h q r = absurd (false≢true h)
-    skip-checked n s t passes (aside a) h q r = absurd (false≢true h)
+      -- a call that is struck out
+      skip-checked : (x : Check) (c : Call Arg) → struck S (messageOf (roleIf G x s c) n) ≡ true → Fruitless (checked G x s c .answer)
+          → Tie (countAfter (roleIf G x s c) n) (checked G x s c .records) (at s j)
+      unfolding struck messageOf countAfter roleIf checked
+      skip-checked (refuses m) c h q = absurd (false≢true h)
+      skip-checked passes (start a) h q = absurd (false≢true h)
+      skip-checked passes (opening a) h q = absurd (false≢true h)
+      skip-checked passes (feed bytes a) h q = skip-fed (fragmentIn (context (s .core)) bytes) h q
+      skip-checked passes (close a) h q = absurd (false≢true h)
+      skip-checked passes (aside a) h q = absurd (false≢true h)
 
     -- the two runs, from tied records
     abbrev Ends : Records Core → Records Core → List (Call Arg) → List (Event Arg Response Told) → Type 0
     Ends s t cs left = (answers G t (callsOf left) ≡ answersOf left) × (after G t (callsOf left) .core ≡ after G s cs .core)
 
-    both-call : (n : Count) (s t : Records Core) (c : Call Arg) (cs : List (Call Arg)) (left : List (Event Arg Response Told)) (b : Bool)
-        → struck S (messageOf (roleOf G s c) n) ≡ b → (b ≡ true → Fruitless (step G s c .answer)) → Tie n s t
+    both-call : (n : Count) (s : Records Core) (j : Input) (c : Call Arg) (cs : List (Call Arg)) (left : List (Event Arg Response Told)) (b : Bool)
+        → struck S (messageOf (roleOf G s c) n) ≡ b → (b ≡ true → Fruitless (step G s c .answer)) → Tied (struck S (current n)) (s .input) j
         → ((u : Records Core) → Tie (countAfter (roleOf G s c) n) (step G s c .records) u → Ends (step G s c .records) u cs left)
-        → Ends s t (c ∷ cs) (pick b left (eventOf G s n c ∷ left))
+        → Ends s (at s j) (c ∷ cs) (pick b left (eventOf G s n c ∷ left))
     unfolding answers after eventOf roleOf step
-    both-call n s t c cs left true h q r rest = rest t (skip-checked n s t (check (s .core) c) c h (q refl) r)
-    both-call n s t c cs left false h q r rest =
-        let k = keep-step n s t c h r in
-        let e = rest (step G t c .records) (k .tie) in
+    both-call n s j c cs left true h q r rest = rest (at s j) (skip-checked n s j r (check (s .core) c) c h (q refl))
+    both-call n s j c cs left false h q r rest =
+        let k = keep-checked n s j r (check (s .core) c) c h in
+        let e = rest (step G (at s j) c .records) (k .tie) in
         (ap₂ _∷_ (sym (k .one-answer)) (e .0), e .1)
 
     both-runs : (cs : List (Call Arg)) (n : Count) (s t : Records Core) → Tie n s t → ((i : ℕ) → S i ≡ true → Never i (historyFrom G s n cs))
@@ -199,8 +189,9 @@ module _ (G : Service) where
     unfolding answers after historyFrom without eventOf
     both-runs [] n s t r q = (refl, sym (r .one-core))
     both-runs (c ∷ cs) n s t r q =
-        both-call n s t c cs _ (struck S (messageOf (roleOf G s c) n)) refl (struck-of S _ (λ i e. q i e .0)) r
-        (λ u r′. both-runs cs _ _ u r′ (λ i e. q i e .1))
+        subst (λ (k : Core). Ends s (record { core = k; input = t .input }) (c ∷ cs) (without S (historyFrom G s n (c ∷ cs)))) (r .one-core)
+        (both-call n s (t .input) c cs _ (struck S (messageOf (roleOf G s c) n)) refl (struck-of S _ (λ i e. q i e .0)) (r .tied)
+        (λ u r′. both-runs cs _ _ u r′ (λ i e. q i e .1)))
 
     pub strike-fruitless : (s : Records Core) (cs : List (Call Arg)) → ((i : ℕ) → S i ≡ true → Never i (history G s cs))
         → Same G s cs (without S (history G s cs))

@@ -57,7 +57,7 @@ shop =
       check = shopCheck;
       started = λ n. record { isOpen = false; space = 0; sold = 0; looks = 0 };
       opened = λ k n. record { isOpen = true; space = n; sold = k .sold; looks = k .looks };
-      closed = λ k. record { isOpen = false; space = 0; sold = k .sold; looks = k .looks };
+      closed = λ k. record { isOpen = false; space = k .space; sold = k .sold; looks = k .looks };
       asked = λ k n. (record { isOpen = k .isOpen; space = k .space; sold = k .sold; looks = suc (k .looks) }, k .sold);
       context = λ k. 1;
       room = λ k. k .space;
@@ -186,6 +186,8 @@ record Computed : Type 0 where
   closed-messages :
       map (λ e. e .message) (history shop shut closing)
       ≡ none ∷ some 1 ∷ none ∷ none ∷ none ∷ some 2 ∷ none ∷ none ∷ none ∷ []
+  -- a wrong header ends the association
+  header-refused : answers shop shut (opening 4 ∷ fragmentFed 4 (1 ∷ []) ∷ fragmentFed 3 (1 ∷ []) ∷ []) ≡ done ∷ refused 5 ∷ refused 4 ∷ []
   -- the shop and its fakes
   right-answers : answers shop shut twice ≡ done ∷ success 2 noData ∷ success 3 noData ∷ told 3 ∷ []
   drops-all : answers (dropsAll shop) fake twice ≡ done ∷ dropped ∷ dropped ∷ told 1 ∷ []
@@ -207,6 +209,7 @@ computed =
       left-end = refl;
       success-missed = refl;
       closed-messages = refl;
+      header-refused = refl;
       right-answers = refl;
       drops-all = refl;
       fails-all = refl;
