@@ -8,11 +8,11 @@ use Rattle.strike.specs.Service.{Reading, unreadable, DataSet, Result, f
 use Rattle.strike.specs.Messages.{StrikeOut}
 use Rattle.strike.proofs.Fate.{strike-out}
 
--- G with other requests, which may remember something beside G's core
-abbrev pub faked : (G : Service) (Memory : Type 0) → Memory → (List ℕ → Reading) → (G .Core × Memory → List ℕ → DataSet → Result (G .Core × Memory) (G .Response)) → Service
-faked G Memory fresh reading request =
+-- G with other requests, which may remember one thing beside G's core
+abbrev pub faked : (G : Service) → Bool → (List ℕ → Reading) → (G .Core × Bool → List ℕ → DataSet → Result (G .Core × Bool) (G .Response)) → Service
+faked G fresh reading request =
     record {
-      Core = G .Core × Memory;
+      Core = G .Core × Bool;
       Arg = G .Arg;
       Response = G .Response;
       Told = G .Told;
@@ -37,21 +37,21 @@ module _ (G : Service) where
   open Service G using (Response, reading, request)
 
   abbrev pub dropsAll : Service
-  dropsAll = faked G Bool false (λ c. unreadable) (λ k c d. stored (k .0) false (request (k .0) c d))
+  dropsAll = faked G false (λ c. unreadable) (λ k c d. stored (k .0) false (request (k .0) c d))
 
   abbrev pub failsAll : Response → Service
-  failsAll r = faked G Bool false reading (λ k c d. fails r)
+  failsAll r = faked G false reading (λ k c d. fails r)
 
   abbrev pub oneReply : Response → Service
-  oneReply r = faked G Bool false reading (λ k c d. does k r)
+  oneReply r = faked G false reading (λ k c d. does k r)
 
   -- responds rightly, but stores nothing
   abbrev pub storesNone : Service
-  storesNone = faked G Bool true reading (λ k c d. stored (k .0) true (request (k .0) c d))
+  storesNone = faked G true reading (λ k c d. stored (k .0) true (request (k .0) c d))
 
   -- .. after the first that was done
   abbrev pub storesFirst : Service
-  storesFirst = faked G Bool false reading (λ k c d. stored (k .0) (k .1) (request (k .0) c d))
+  storesFirst = faked G false reading (λ k c d. stored (k .0) (k .1) (request (k .0) c d))
 
   pub drops-all-strikes : StrikeOut dropsAll
   drops-all-strikes = strike-out dropsAll
