@@ -1,0 +1,115 @@
+-- The three fakes of document 01, beside the book: on a computed run each of them answers otherwise.
+-- Strike-out alone admits them all (strike/proofs/Fakes); demand 3 is stated over the book's own step.
+-- Assumes nothing.
+use mathlib.Core.Path.{_≡_, refl}
+use mathlib.Core.Bool.{Bool, true, false}
+use mathlib.Core.List.{List, [], _∷_, map}
+use Prim.Native.Nat.{ℕ}
+use Rattle.strike.specs.Service.{Call, feed, Service}
+use Rattle.strike.specs.Machine.{headerWrong, fragmentIn, skips, reads, gathers, overflows, stores, collect, laidBy, answered, carriedOut, fed, checked, step, laidIf, messageAfter}
+use Rattle.strike.specs.Machine as machine
+use Rattle.strike.specs.Machine.{idle, Records, Answer}
+use Rattle.strike.specs.Messages.{answers}
+use Rattle.strike.proofs.Fakes.{dropsAll, failsAll, oneReply, storesNone, storesFirst}
+use Rattle.rules.specs.declared.Core.{Core}
+use Rattle.rules.specs.Responses.{Reply}
+use Rattle.rules.specs.Calls.{Handed, printing, check, started, opened, closed, pictureBytes, entryBytes, taken, reading}
+use Rattle.rules.proofs.Stage.{nothingLive}
+use Rattle.octets.specs.Octets.{numberAt, bigNumberAt, octets, same}
+use Rattle.uids.specs.Uids.{digits, component, components, isUid, unpadded, beginsWith, lastDigits, decimal, made}
+use Rattle.headers.specs.Table.{namedVr, formOf, implicitVr, differs}
+use Rattle.headers.specs.Header.{tagAt, sizeAt, vrAt, lengthAt, vrWrong, lengthHead, headAt, itemHeadAt, closeAt}
+use Rattle.elements.specs.Find.{elementsFrom, itemsOf, findAt, itemsAt}
+use Rattle.elements.specs.Walk.{walk, trail}
+use Rattle.elements.specs.Reader.{listStep, listFrom, itemWith, itemStep, itemsFrom, elementAt, listAt, itemAt, dataSet}
+use Rattle.writing.specs.Bytes.{padded, tagOctets, vrOctets, headerSize, plain, header, element, written, writtenItems}
+use Rattle.rules.specs.Effects.{sessionCreated, newFilm, filmCreated, sessionSet, filmSet, boxSet, sessionDeleted, filmDeleted, pictureOn, entryOf, entriesFor, ticketAfter, printed, filledBoxes}
+use Rattle.rules.specs.Checks.{classOf, generalRules, createRules, targetRules, createPlan, setPlan, actionPlan, deletePlan, planOf, decideRequest, decide}
+use Rattle.rules.specs.Text.{chars}
+use Rattle.rules.specs.Lists.{every, any, placeOf, apart, sum, from}
+use Rattle.rules.specs.Commands.{bytesOf, uidAt, groupZero, lengthTold, wellFormed, hasData, requestIn, understood}
+use Rattle.rules.specs.Records.{rootOf, uidOf, boxCount, boxesOf, filmsOf, shelved, entriesOf, queued, boxUids, named}
+use Rattle.rules.specs.Responses.{responseElements, responseTree, reply, boxItems, filmTree}
+use Rattle.rules.specs.Values.{withoutLeading, withoutTrailing, trimmed, blank, withoutPlus, decimalValue, countIn, codeIn, labelAllowed, standard, countsIn}
+use Rattle.rules.specs.Attributes.{sessionStandings, sessionWith, optionalFilm, filmCreateStandings, filmSetStandings, filmWith, layoutIn, imageStandings, imageIn, boxStandings, boxWith}
+
+-- C-ECHO, number 7, in one fragment
+abbrev echo7 : List ℕ
+echo7 =
+    0x00 ∷ 0x00 ∷ 0x00 ∷ 0x46 ∷ 0x01 ∷ 0x03 ∷ 0x00 ∷ 0x00 ∷ 0x00 ∷ 0x00 ∷ 0x04 ∷ 0x00 ∷ 0x00 ∷ 0x00 ∷ 0x38 ∷ 0x00
+    ∷ 0x00 ∷ 0x00 ∷ 0x00 ∷ 0x00 ∷ 0x02 ∷ 0x00 ∷ 0x12 ∷ 0x00 ∷ 0x00 ∷ 0x00 ∷ 0x31 ∷ 0x2E ∷ 0x32 ∷ 0x2E ∷ 0x38 ∷ 0x34
+    ∷ 0x30 ∷ 0x2E ∷ 0x31 ∷ 0x30 ∷ 0x30 ∷ 0x30 ∷ 0x38 ∷ 0x2E ∷ 0x31 ∷ 0x2E ∷ 0x31 ∷ 0x00 ∷ 0x00 ∷ 0x00 ∷ 0x00 ∷ 0x01
+    ∷ 0x02 ∷ 0x00 ∷ 0x00 ∷ 0x00 ∷ 0x30 ∷ 0x00 ∷ 0x00 ∷ 0x00 ∷ 0x10 ∷ 0x01 ∷ 0x02 ∷ 0x00 ∷ 0x00 ∷ 0x00 ∷ 0x07 ∷ 0x00
+    ∷ 0x00 ∷ 0x00 ∷ 0x00 ∷ 0x08 ∷ 0x02 ∷ 0x00 ∷ 0x00 ∷ 0x00 ∷ 0x01 ∷ 0x01 ∷ []
+
+-- C-ECHO, number 8
+abbrev echo8 : List ℕ
+echo8 =
+    0x00 ∷ 0x00 ∷ 0x00 ∷ 0x46 ∷ 0x01 ∷ 0x03 ∷ 0x00 ∷ 0x00 ∷ 0x00 ∷ 0x00 ∷ 0x04 ∷ 0x00 ∷ 0x00 ∷ 0x00 ∷ 0x38 ∷ 0x00
+    ∷ 0x00 ∷ 0x00 ∷ 0x00 ∷ 0x00 ∷ 0x02 ∷ 0x00 ∷ 0x12 ∷ 0x00 ∷ 0x00 ∷ 0x00 ∷ 0x31 ∷ 0x2E ∷ 0x32 ∷ 0x2E ∷ 0x38 ∷ 0x34
+    ∷ 0x30 ∷ 0x2E ∷ 0x31 ∷ 0x30 ∷ 0x30 ∷ 0x30 ∷ 0x38 ∷ 0x2E ∷ 0x31 ∷ 0x2E ∷ 0x31 ∷ 0x00 ∷ 0x00 ∷ 0x00 ∷ 0x00 ∷ 0x01
+    ∷ 0x02 ∷ 0x00 ∷ 0x00 ∷ 0x00 ∷ 0x30 ∷ 0x00 ∷ 0x00 ∷ 0x00 ∷ 0x10 ∷ 0x01 ∷ 0x02 ∷ 0x00 ∷ 0x00 ∷ 0x00 ∷ 0x08 ∷ 0x00
+    ∷ 0x00 ∷ 0x00 ∷ 0x00 ∷ 0x08 ∷ 0x02 ∷ 0x00 ∷ 0x00 ∷ 0x00 ∷ 0x01 ∷ 0x01 ∷ []
+
+-- N-CREATE of session 1.2.3
+abbrev makes : List ℕ
+makes =
+    0x00 ∷ 0x00 ∷ 0x00 ∷ 0x58 ∷ 0x01 ∷ 0x03 ∷ 0x00 ∷ 0x00 ∷ 0x00 ∷ 0x00 ∷ 0x04 ∷ 0x00 ∷ 0x00 ∷ 0x00 ∷ 0x4A ∷ 0x00
+    ∷ 0x00 ∷ 0x00 ∷ 0x00 ∷ 0x00 ∷ 0x02 ∷ 0x00 ∷ 0x16 ∷ 0x00 ∷ 0x00 ∷ 0x00 ∷ 0x31 ∷ 0x2E ∷ 0x32 ∷ 0x2E ∷ 0x38 ∷ 0x34
+    ∷ 0x30 ∷ 0x2E ∷ 0x31 ∷ 0x30 ∷ 0x30 ∷ 0x30 ∷ 0x38 ∷ 0x2E ∷ 0x35 ∷ 0x2E ∷ 0x31 ∷ 0x2E ∷ 0x31 ∷ 0x2E ∷ 0x31 ∷ 0x00
+    ∷ 0x00 ∷ 0x00 ∷ 0x00 ∷ 0x01 ∷ 0x02 ∷ 0x00 ∷ 0x00 ∷ 0x00 ∷ 0x40 ∷ 0x01 ∷ 0x00 ∷ 0x00 ∷ 0x10 ∷ 0x01 ∷ 0x02 ∷ 0x00
+    ∷ 0x00 ∷ 0x00 ∷ 0x01 ∷ 0x00 ∷ 0x00 ∷ 0x00 ∷ 0x00 ∷ 0x08 ∷ 0x02 ∷ 0x00 ∷ 0x00 ∷ 0x00 ∷ 0x01 ∷ 0x01 ∷ 0x00 ∷ 0x00
+    ∷ 0x00 ∷ 0x10 ∷ 0x06 ∷ 0x00 ∷ 0x00 ∷ 0x00 ∷ 0x31 ∷ 0x2E ∷ 0x32 ∷ 0x2E ∷ 0x33 ∷ 0x00 ∷ []
+
+-- N-DELETE of session 1.2.3
+abbrev deletes : List ℕ
+deletes =
+    0x00 ∷ 0x00 ∷ 0x00 ∷ 0x58 ∷ 0x01 ∷ 0x03 ∷ 0x00 ∷ 0x00 ∷ 0x00 ∷ 0x00 ∷ 0x04 ∷ 0x00 ∷ 0x00 ∷ 0x00 ∷ 0x4A ∷ 0x00
+    ∷ 0x00 ∷ 0x00 ∷ 0x00 ∷ 0x00 ∷ 0x03 ∷ 0x00 ∷ 0x16 ∷ 0x00 ∷ 0x00 ∷ 0x00 ∷ 0x31 ∷ 0x2E ∷ 0x32 ∷ 0x2E ∷ 0x38 ∷ 0x34
+    ∷ 0x30 ∷ 0x2E ∷ 0x31 ∷ 0x30 ∷ 0x30 ∷ 0x30 ∷ 0x38 ∷ 0x2E ∷ 0x35 ∷ 0x2E ∷ 0x31 ∷ 0x2E ∷ 0x31 ∷ 0x2E ∷ 0x31 ∷ 0x00
+    ∷ 0x00 ∷ 0x00 ∷ 0x00 ∷ 0x01 ∷ 0x02 ∷ 0x00 ∷ 0x00 ∷ 0x00 ∷ 0x50 ∷ 0x01 ∷ 0x00 ∷ 0x00 ∷ 0x10 ∷ 0x01 ∷ 0x02 ∷ 0x00
+    ∷ 0x00 ∷ 0x00 ∷ 0x01 ∷ 0x00 ∷ 0x00 ∷ 0x00 ∷ 0x00 ∷ 0x08 ∷ 0x02 ∷ 0x00 ∷ 0x00 ∷ 0x00 ∷ 0x01 ∷ 0x01 ∷ 0x00 ∷ 0x00
+    ∷ 0x01 ∷ 0x10 ∷ 0x06 ∷ 0x00 ∷ 0x00 ∷ 0x00 ∷ 0x31 ∷ 0x2E ∷ 0x32 ∷ 0x2E ∷ 0x33 ∷ 0x00 ∷ []
+
+-- the buffers lent to a feed: just long enough
+abbrev lent : Handed
+lent = record { root = []; serial = 0; picture = 0; context = 0; syntax = 0; message = 4096; command = 256; dataSet = 8192; report = 20; entry = 0 }
+
+abbrev feeds : List (List ℕ) → List (Call Handed)
+feeds fragments = map (λ bytes. feed bytes lent) fragments
+
+-- what an answer shows: whether a response, and its status
+pub data Shown : Type 0 where
+  noResponse : Shown
+  failedWith succeededWith : ℕ → Shown
+
+abbrev shown : Answer Reply (List ℕ) → Shown
+shown (machine.refused n) = noResponse
+shown machine.done = noResponse
+shown (machine.told t) = noResponse
+shown machine.ignored = noResponse
+shown machine.wait = noResponse
+shown machine.dropped = noResponse
+shown (machine.failure r d) = failedWith (r .status)
+shown (machine.success r d) = succeededWith (r .status)
+
+abbrev book : List (List ℕ) → List Shown
+book fragments = map shown (answers printing (record { core = nothingLive; input = idle }) (feeds fragments))
+
+-- a fake's records hold one thing more; it has nothing in it yet
+abbrev drops : List (List ℕ) → List Shown
+drops fragments = map shown (answers (dropsAll printing) (record { core = (nothingLive, false); input = idle }) (feeds fragments))
+
+abbrev none : List (List ℕ) → List Shown
+none fragments = map shown (answers (storesNone printing) (record { core = (nothingLive, true); input = idle }) (feeds fragments))
+
+abbrev first : List (List ℕ) → List Shown
+first fragments = map shown (answers (storesFirst printing) (record { core = (nothingLive, false); input = idle }) (feeds fragments))
+
+-- one that drops everything, and one that responds rightly but stores nothing, at once or after the first message
+pub told-apart : (book (echo7 ∷ []) ≡ succeededWith 0x0000 ∷ []) × (drops (echo7 ∷ []) ≡ noResponse ∷ [])
+    × (book (makes ∷ makes ∷ []) ≡ succeededWith 0x0000 ∷ failedWith 0x0111 ∷ []) × (none (makes ∷ makes ∷ []) ≡ succeededWith 0x0000 ∷ succeededWith 0x0000 ∷ [])
+    × (book (makes ∷ deletes ∷ deletes ∷ []) ≡ succeededWith 0x0000 ∷ succeededWith 0x0000 ∷ failedWith 0x0112 ∷ [])
+    × (first (makes ∷ deletes ∷ deletes ∷ []) ≡ succeededWith 0x0000 ∷ succeededWith 0x0000 ∷ succeededWith 0x0000 ∷ [])
+unfolding numberAt bigNumberAt octets same digits component components isUid unpadded beginsWith lastDigits decimal made namedVr formOf implicitVr differs tagAt sizeAt vrAt lengthAt vrWrong lengthHead headAt itemHeadAt closeAt elementsFrom itemsOf findAt itemsAt walk trail listStep listFrom itemWith itemStep itemsFrom elementAt listAt itemAt dataSet padded tagOctets vrOctets headerSize plain header element written writtenItems sessionCreated newFilm filmCreated sessionSet filmSet boxSet sessionDeleted filmDeleted pictureOn entryOf entriesFor ticketAfter printed filledBoxes classOf generalRules createRules targetRules createPlan setPlan actionPlan deletePlan planOf decideRequest decide chars every any placeOf apart sum from bytesOf uidAt groupZero lengthTold wellFormed hasData requestIn understood rootOf uidOf boxCount boxesOf filmsOf shelved entriesOf queued boxUids named responseElements responseTree reply boxItems filmTree withoutLeading withoutTrailing trimmed blank withoutPlus decimalValue countIn codeIn labelAllowed standard countsIn sessionStandings sessionWith optionalFilm filmCreateStandings filmSetStandings filmWith layoutIn imageStandings imageIn boxStandings boxWith headerWrong fragmentIn skips reads gathers overflows stores collect laidBy answered carriedOut fed checked step laidIf messageAfter check started opened closed pictureBytes entryBytes taken reading answers
+told-apart = (refl, refl, refl, refl, refl, refl)

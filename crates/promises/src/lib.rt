@@ -1,0 +1,1 @@
+// The promises: theorems about the book, in proofs/. It has no code.

@@ -1,0 +1,6 @@
+-- Worked examples of the book, computed.
+pub mod Stage
+pub mod Examples
+pub mod Worked
+pub mod Refusals
+pub mod Sizes

@@ -1,0 +1,14 @@
+pub mod Bounds
+pub mod Text
+pub mod Lists
+pub mod Values
+pub mod Records
+pub mod Commands
+pub mod Attributes
+pub mod Responses
+pub mod Effects
+pub mod Checks
+pub mod Sound
+pub mod Calls
+pub mod Layout
+pub mod Outcomes
