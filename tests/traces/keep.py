@@ -1,0 +1,201 @@
+#!/usr/bin/env python3
+"""Writes the kept traces with their replies, small ones that show each part of document 01 once.
+Replies are the second program's; where the console foretold one, they must agree."""
+import os
+import random
+import sys
+
+import damages
+from examples import EXAMPLES
+from generate import *
+from program import HERE, Run
+
+KEPT = os.path.join(HERE, "kept")
+
+
+# These pick one case of many: some of them are kept.
+PICKING = (data_unreadable, odd_but_readable, bad_sent_uid, not_live, session_values, film_sets,
+           command_unreadable, command_refused_by_reader, refused_headers)
+
+
+def damage_trace(function, seed):
+    """A damage in both syntaxes."""
+    c = Damaged(random.Random(seed))
+    c.start("1.9.7", 100, 1)
+    for syntax in (IMPLICIT, EXPLICIT):
+        c.open(1, syntax, 4096)
+        c.create_session("1.9.70.5")
+        c.create_film(2, 2, "1.9.70.6")
+        c.create_film(1, 2)
+        for _ in range(6 if function in PICKING else 1):
+            function(c)
+        c.close()
+    return c
+
+
+def sound_trace(seed, steps, near_end=False):
+    c = Damaged(random.Random(seed))
+    start_some(c, near_end)
+    for _ in range(steps):
+        sound_step(c)
+    return c
+
+
+def first_job(syntax):
+    """As a console does it: a session without data set, a film, its boxes, print, delete."""
+    c = Damaged(random.Random(3))
+    c.neat = True
+    c.start("1.9.7", 100, 1)
+    c.open(1, syntax, 4096)
+    c.fails(0x0211, c.request(0x0110), None)      # N-GET of Printer comes first
+    request = c.request(N_CREATE, SESSION)
+    c.session = c.next_uid()
+    c.ask(request, None, request.response(0, c.session), False)
+    film = c.create_film(2, 3, None, [(0x20100050, "CS", b"14INX17IN "), (0x20100140, "CS", b"NO")])
+    for i in range(6):
+        picture = c.small_picture([(0x00280034, "IS", b"1\\1 ")])
+        c.fill_box(film, i, i + 1, picture, [(0x20100060, "CS", b"CUBIC "), (0x20100080, "CS", b"140 ")])
+    c.print_film(film)
+    c.delete_film(film)
+    c.delete_session()
+    c.close()
+    c.take()
+    return c
+
+
+def full_queue():
+    c = Damaged(random.Random(4))
+    c.start("1.9.7", 1, 1)
+    c.open(1, EXPLICIT, 4096)
+    c.create_session()
+    for _ in range(8):
+        c.create_film(1, 1)
+    for _ in range(2):
+        c.print_session()
+    c.print_film(c.films[0])
+    for _ in range(7):
+        c.take()
+    c.print_session()
+    c.take()
+    c.print_session()
+    c.close()
+    for _ in range(17):
+        c.take()
+    return c
+
+
+def colliding():
+    c = Damaged(random.Random(5))
+    c.start("1.9.7", 1, 1)
+    c.open(1, IMPLICIT, 4096)
+    c.create_session()
+    film, other = c.create_film(2, 1), c.create_film(1, 1)
+    fill(c, film, 0, 1)
+    c.move_box(film, 1, 1)
+    c.print_film(film)
+    fill(c, film, 1, 1)
+    c.print_film(film)
+    c.print_session()
+    c.print_film(other)
+    c.move_box(film, 0, 2)
+    c.print_film(film)
+    c.move_box(film, 0, 1, True)
+    c.print_session()
+    for _ in range(5):
+        c.take()
+    return c
+
+
+def last_numbers():
+    """The last serial and the last picture number, and then none."""
+    c = Damaged(random.Random(6))
+    c.start("1.9.7", 4294967293, 4294967295)
+    c.open(1, IMPLICIT, 4096)
+    c.create_session("1.9.70.1")
+    c.create_film(2, 2)
+    film = c.create_film(2, 1)
+    c.create_film(1, 1)
+    c.create_film(1, 1, "1.9.70.2")
+    fill(c, film, 0, 1)
+    fill(c, film, 1, 2)
+    c.move_box(film, 1, 2, True)
+    c.delete_session()
+    c.create_session()
+    c.create_session("1.9.70.3")
+    return c
+
+
+def nine_films():
+    c = Damaged(random.Random(7))
+    c.start("1.9.7", 1, 1)
+    c.open(255, EXPLICIT, 5000)
+    c.create_session()
+    c.create_session()
+    for _ in range(9):
+        c.create_film(1, 1)
+    c.delete_film(c.films[3])
+    c.create_film(6, 6)
+    c.create_film(1, 1)
+    c.delete_session()
+    c.create_film(1, 1)
+    return c
+
+
+def unstarted():
+    """Calls before a start has made records."""
+    c = Damaged(random.Random(8))
+    c.refused_start(b"1.", 1, 1)
+    for line in ("open 1 1 4096", "open 0 0 1", "feed -", "close", "take"):
+        c.call(line, "refused 1")
+    c.start("1.9.7", 1, 1)
+    c.take()
+    return c
+
+
+def wild_trace(seed):
+    c = Damaged(random.Random(seed))
+    c.start("1.9.7", 100, 1)
+    for syntax in (IMPLICIT, EXPLICIT):
+        c.open(1, syntax, 4096)
+        for _ in range(12):
+            ready(c)
+            wild(c)
+        c.call("close", None)
+        c.opened = False
+        c.drop_all()
+    return c
+
+
+def kept_traces():
+    yield from ((name, make()) for name, make in EXAMPLES)
+    for i, function in enumerate(damages.DAMAGES + [refused_headers, closed_calls]):
+        yield "damage-" + function.__name__.replace("_", "-"), damage_trace(function, 100 + i)
+    yield "job-implicit", first_job(IMPLICIT)
+    yield "job-explicit", first_job(EXPLICIT)
+    for seed in (11, 12, 13):
+        yield f"sound-{seed}", sound_trace(seed, 25)
+    for seed in (14, 15):
+        yield f"near-the-end-{seed}", sound_trace(seed, 25, True)
+    yield "full-queue", full_queue()
+    yield "colliding-positions", colliding()
+    yield "last-numbers", last_numbers()
+    yield "nine-films", nine_films()
+    yield "wild-1", wild_trace(21)
+    yield "wild-2", wild_trace(22)
+    yield "unstarted", unstarted()
+
+
+def main():
+    os.makedirs(KEPT, exist_ok=True)
+    for name, c in kept_traces():
+        run = Run(c.lines)
+        wrong = run.differs(c.lines, c.foretold)
+        if wrong:
+            sys.exit(f"{name}: {wrong}")
+        for ending, rows in (("trace", c.lines), ("replies", run.replies)):
+            with open(os.path.join(KEPT, f"{name}.{ending}"), "w", encoding="ascii") as out:
+                out.write("\n".join(rows) + "\n")
+
+
+if __name__ == "__main__":
+    main()
