@@ -1,5 +1,6 @@
 #!/usr/bin/env python3
-"""Seeded traces. `generate.py SEED` prints the trace of one seed."""
+"""Seeded traces. `generate.py NAME ..` prints traces one after the other, each beginning with a start
+(which makes fresh records); a NAME is a seed's number or one of NAMED."""
 import random
 import sys
 
@@ -51,7 +52,7 @@ def new_uid(c):
 
 def add_session(c):
     rows, copies = right(c.rng)
-    rows += [r for r in console_rows(c, "session")]
+    rows += console_rows(c, "session")
     c.create_session(new_uid(c), copies, rows)
 
 
@@ -130,18 +131,31 @@ def sound_step(c):
     rng = c.rng
     if not c.opened:
         return open_some(c)
-    steps = [(2, c.echo), (2, reopen), (6, c.take), (4, job)]
+    steps = [(2, Damaged.echo), (2, reopen), (6, Damaged.take), (4, job)]
     if c.session is None:
         steps += [(30, add_session), (1, add_film)]
     else:
-        steps += [(12, add_film), (2, add_session), (2, c.delete_session), (6, c.print_session),
-                  (4, lambda: c.set_session(*right(rng)))]
+        steps += [(12, add_film), (2, add_session), (2, Damaged.delete_session),
+                  (6, Damaged.print_session), (4, set_session)]
     if c.films:
-        steps += [(25, fill), (8, move), (8, lambda: c.print_film(rng.choice(c.films))),
-                  (3, lambda: c.delete_film(rng.choice(c.films))), (3, delete_twice),
-                  (4, lambda: c.set_film(rng.choice(c.films), right(rng, FILM_RIGHT)[0]))]
-    step = rng.choices([s for _, s in steps], [w for w, _ in steps])[0]
-    step(c) if step.__code__.co_argcount and not hasattr(step, "__self__") else step()
+        steps += [(25, fill), (8, move), (8, print_one), (3, delete_one), (3, delete_twice), (4, set_one)]
+    rng.choices([s for _, s in steps], [w for w, _ in steps])[0](c)
+
+
+def set_session(c):
+    c.set_session(*right(c.rng))
+
+
+def set_one(c):
+    c.set_film(c.rng.choice(c.films), right(c.rng, FILM_RIGHT)[0])
+
+
+def print_one(c):
+    c.print_film(c.rng.choice(c.films))
+
+
+def delete_one(c):
+    c.delete_film(c.rng.choice(c.films))
 
 
 def delete_twice(c):
@@ -299,5 +313,17 @@ def long_lines():
     return c
 
 
+NAMED = {
+    "tickets": tickets, "long-lines": long_lines,
+    "every-damage-implicit": lambda: thorough(IMPLICIT),
+    "every-damage-explicit": lambda: thorough(EXPLICIT),
+}
+
+
+def trace(name):
+    return seeded(int(name)) if name.isdigit() else NAMED[name]()
+
+
 if __name__ == "__main__":
-    print("\n".join(seeded(int(sys.argv[1])).lines))
+    for one in sys.argv[1:]:
+        print("\n".join(trace(one).lines))
