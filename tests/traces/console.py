@@ -150,7 +150,7 @@ class Console:
 
     def fill_buffer(self, data):
         """Feeds of a data set past the message buffer; all but the last wait."""
-        kept = data if self.rng.random() < 0.5 else b""
+        kept = data if self.rng.random() < 0.7 else b""
         room = self.length - len(kept)
         first = fragment(self.context, 0, kept)
         past = fragment(self.context, 0, bytes(room + self.rng.choice((1, 2, 500))))

@@ -1,6 +1,6 @@
 """Damage: requests and calls that must be refused, failed, dropped or ignored, each with the reply
 that document 01 gives. Every function wants an open console with a session and a film with boxes;
-`c.some` hands over all cases to a thorough console, else one at random."""
+`c.some` hands over all cases to a thorough console, else one at random, or as many as it picks."""
 from console import Console
 from faults import *
 from wire import *
@@ -14,13 +14,13 @@ def damage(function):
 
 
 class Damaged(Console):
-    def __init__(self, rng, thorough=False):
+    def __init__(self, rng, thorough=False, picks=1):
         super().__init__(rng)
-        self.thorough = thorough
+        self.thorough, self.picks = thorough, picks
 
     def some(self, cases):
         cases = list(cases)
-        return cases if self.thorough else [self.rng.choice(cases)]
+        return cases if self.thorough else self.rng.sample(cases, min(self.picks, len(cases)))
 
     def fails(self, status, request, data=None, named=True, what=""):
         self.count(f"{status:04X}H {what}".strip())
@@ -49,7 +49,7 @@ class Damaged(Console):
     def too_long(self, request, reply):
         """A data set past the message buffer, then its answer."""
         self.send(command(request.rows(True)), None, "wait")
-        for one in self.fill_buffer(sound(self.syntax)):
+        for one in self.fill_buffer(self.rng.choice((sound(self.syntax), b"unreadable"))):
             self.feed(one, "wait")
         self.feed(fragment(self.context, 2, self.rng.randbytes(self.rng.randint(0, 4))), reply)
 
@@ -132,15 +132,21 @@ def data_of_the_buffers_length(c):
     c.ask(request, data, request.response(0, c.session))
 
 
+def faults_and_depths(syntax):
+    """Every fault of the reader, at every nesting where it can be."""
+    for fault in list(list_faults(syntax)) + list(item_faults(syntax)):
+        least = 1 if fault.between_items or fault.undefined else 0
+        for depth in range(least, 5):
+            yield fault, depth
+
+
 @damage
 def data_unreadable(c):
-    for fault in c.some(list(list_faults(c.syntax)) + list(item_faults(c.syntax))):
-        least = 1 if fault.between_items or fault.undefined else 0
-        for depth in c.some(range(least, 5)):
-            request = c.rng.choice(c.sound_requests())
-            data = faulty(fault, depth, c.syntax, c.rng)
-            c.fails(0x0110, request, data, what=f"reader: {fault.name}, {c.syntax}")
-            c.count(f"reader fault in {depth} sequences")
+    for fault, depth in c.some(faults_and_depths(c.syntax)):
+        request = c.rng.choice(c.sound_requests())
+        data = faulty(fault, depth, c.syntax, c.rng)
+        c.fails(0x0110, request, data, what=f"reader: {fault.name}, {c.syntax}")
+        c.count(f"reader fault in {depth} sequences")
 
 
 @damage
@@ -476,35 +482,12 @@ def with_rest(rows, rest):
 def command_refused_by_reader(c):
     rows = c.request(C_ECHO, VERIFICATION).rows(False)
     tags = (0x00005000, 0x00005000)
-    for fault in c.some(list(list_faults(IMPLICIT)) + list(item_faults(IMPLICIT))):
-        least = 1 if fault.between_items or fault.undefined else 0
-        for depth in c.some(range(least, 5)):
-            opening = fault.undefined
-            if fault.between_items and opening is False:
-                continue        # an unnamed sequence of defined length is opaque
-            rest = command_fault(fault, depth, c.rng, tags)
-            if len(rest) < 800:
-                c.count(f"dropped: reader: {fault.name}")
-                c.send(with_rest(rows, rest), None, "dropped")
-
-
-def command_fault(fault, depth, rng, tags):
-    """As `faulty`, in undefined sequences, which are all that a command can nest."""
-    closed = not fault.at_end
-    inside = fault.data
-    if fault.between_items:
-        inside = around(inside, IMPLICIT, True, closed, tags)
-        depth -= 1
-        innermost = None
-    else:
-        innermost = fault.undefined
-    for level in range(depth):
-        item_open = innermost if level == 0 and innermost is not None else rng.random() < 0.5
-        one = item(inside, item_open)
-        if item_open and not closed:
-            one = one[:-8]
-        inside = around(one, IMPLICIT, True, closed, tags)
-    return inside
+    # An unnamed sequence of defined length is opaque.
+    cases = [(f, d) for f, d in faults_and_depths(IMPLICIT) if not f.between_items or f.undefined is not False]
+    for fault, depth in c.some(cases):
+        rest = faulty(fault, depth, IMPLICIT, c.rng, tags, True)
+        c.count(f"dropped: reader: {fault.name}")
+        c.send(with_rest(rows, rest), None, "dropped")
 
 
 @damage
@@ -646,10 +629,9 @@ def refused_calls(c):
     c.refused_open(c.rng.choice((0, c.context)), c.syntax, other, 2)
     c.count("refused 3: open while open")
     c.refused_open(c.context, c.syntax, c.length, 3)
-    if c.thorough:
-        closed_calls(c)
 
 
+@damage
 def closed_calls(c):
     """What is refused while not open; then open again."""
     c.close()
@@ -663,6 +645,9 @@ def closed_calls(c):
     for syntax in c.some((0, 3, 4294967295)):
         c.count("refused 3: syntax")
         c.refused_open(1, syntax, 4096, 3)
+    for length in c.some((0, 4095, 16777217, 2 ** 32 + 4096)):
+        c.count("refused 2: length out of limits")
+        c.refused_open(1, 1, length, 2)
     c.refused_open(0, 0, 4095, 2)
     c.open(c.context, c.syntax, c.length)
     again(c)

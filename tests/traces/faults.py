@@ -9,6 +9,12 @@ class Fault:
         self.name, self.data, self.at_end = name, data, at_end
         self.undefined = undefined      # the list or sequence around must be so; None: either
         self.between_items = between_items
+        self.closes = False             # ends as if it closed what is around it
+
+
+def closing(fault):
+    fault.closes = True
+    return fault
 
 
 def sound(syntax):
@@ -26,7 +32,9 @@ def list_faults(syntax):
     for tag in (ITEM, SEQUENCE_END, 0xFFFEE0DC):
         yield Fault("group FFFE that does not close", ok + tag_bytes(tag) + u32(0), False, True)
     for length in (1, 2, UNDEFINED):
-        yield Fault("item delimiter with a length", ok + tag_bytes(ITEM_END) + u32(length), False, True)
+        wrong = ok + tag_bytes(ITEM_END) + u32(length)
+        yield Fault("item delimiter with a length", wrong, False, True)
+        yield closing(Fault("item delimiter with a length", wrong, False, True))
     yield Fault("same tag twice", ok + ok)
     yield Fault("tag below", ok + element(0x00080000, "UL", u32(2), syntax))
     yield Fault("group below", ok + element(0x00020010, "UI", b"1.2\0", syntax))
@@ -35,13 +43,18 @@ def list_faults(syntax):
         yield Fault("odd length", ok + header(tag, "IS", length, syntax) + bytes(length))
     for length in (2, 100, 0x7FFE):
         yield Fault("value past the end", ok + header(tag, "IS", length, syntax), True)
+    yield Fault("value past the end", ok + header(tag, "IS", 4, syntax) + b"1  ", True)
     yield Fault("value past the end", ok + header(0x7FE00010, "OW", 0xFFFFFFFE, syntax) + b"12", True)
     yield Fault("value past the end", ok + header(0x20100500, "SQ", 8, syntax) + b"1234567", True)
     for tag in sorted(NAMED):
         if syntax == IMPLICIT and NAMED[tag] != "SQ" and tag > 0x00080005:
-            yield Fault("undefined length", ok + header(tag, "", UNDEFINED, syntax))
+            wrong = ok + header(tag, "", UNDEFINED, syntax)
+            yield Fault("undefined length", wrong + tag_bytes(SEQUENCE_END) + u32(0))
     if syntax == EXPLICIT:
         yield from explicit_faults(ok)
+    else:
+        wrong = ok + header(0x00400100, "", 0xFFFF, syntax) + tag_bytes(SEQUENCE_END) + u32(0)
+        yield Fault("odd length", wrong)
 
 
 def explicit_faults(ok):
@@ -52,7 +65,8 @@ def explicit_faults(ok):
         for zeros in (b"\1\0", b"\0\1", b"  "):
             yield Fault("long-form bytes not zero", ok + wrong + zeros + u32(0))
         if vr != "SQ":
-            yield Fault("undefined length", ok + header(0x00400100, vr, UNDEFINED, EXPLICIT))
+            wrong = ok + header(0x00400100, vr, UNDEFINED, EXPLICIT)
+            yield Fault("undefined length", wrong + tag_bytes(SEQUENCE_END) + u32(0))
     yield Fault("FFFFH is odd", ok + header(0x00400100, "LT", 0xFFFF, EXPLICIT))
     for vr in ("OD", "UC", "XX", "us", "U ", "\0\0", "\xff\xff"):
         yield Fault("unknown VR", ok + tag_bytes(0x00400100) + vr.encode("latin-1") + u16(0))
@@ -73,8 +87,9 @@ def item_faults(syntax):
     for n in range(1, 8):
         yield Fault("cut short between items", ok + (tag_bytes(ITEM) + u32(0))[:n], True, None, True)
     for length in (1, 8, UNDEFINED):
-        yield Fault("sequence delimiter with a length", ok + tag_bytes(SEQUENCE_END) + u32(length),
-                    False, True, True)
+        wrong = ok + tag_bytes(SEQUENCE_END) + u32(length)
+        yield Fault("sequence delimiter with a length", wrong, False, True, True)
+        yield closing(Fault("sequence delimiter with a length", wrong, False, True, True))
     for length in (0, 4):
         yield Fault("sequence delimiter, defined length", ok + tag_bytes(SEQUENCE_END) + u32(length),
                     False, False, True)
@@ -94,38 +109,49 @@ def fifth_sequences(syntax):
     yield Fault("fifth sequence", sequence(0x20200110, one, syntax, False))
 
 
-def nest(inside, depth, syntax, undefined, closed, tags, innermost=None):
-    """`inside`, a list, put into `depth` sequences of one item. `undefined` chooses how, `innermost`
-    how the list itself ends; unless `closed`, delimiters are left out."""
-    for level in range(depth):
-        item_open = innermost if level == 0 and innermost is not None else undefined()
-        one = item(inside, item_open)
-        if item_open and not closed:
-            one = one[:-8]
-        inside = around(one, syntax, undefined(), closed, tags)
-    return inside
-
-
-def around(items, syntax, seq_open, closed, tags):
+def around(items, syntax, undefined, closed, tags):
     """Items put into a sequence element. In implicit VR only a named tag's length may be defined."""
     named_tag, other_tag = tags
-    whole = sequence(other_tag if seq_open else named_tag, items, syntax, seq_open)
-    return whole[:-8] if seq_open and not closed else whole
+    whole = sequence(other_tag if undefined else named_tag, items, syntax, undefined)
+    return whole[:-8] if undefined and not closed else whole
+
+
+def within(inside, undefined, closed):
+    """A list put into an item."""
+    whole = item(inside, undefined)
+    return whole[:-8] if undefined and not closed else whole
+
+
+def nest(inside, depth, syntax, undefined, closed, tags):
+    """A list put into `depth` sequences of one item; `undefined` chooses how. Unless `closed`,
+    delimiters are left out."""
+    for _ in range(depth):
+        inside = around(within(inside, undefined(), closed), syntax, undefined(), closed, tags)
+    return inside
 
 
 DATA_TAGS = (0x20100500, 0x00400100)
 
 
-def faulty(fault, depth, syntax, rng, tags=DATA_TAGS):
-    """The bytes of a data set with this fault in a list that lies in `depth` sequences, or between
-    the items of the last of them."""
+def faulty(fault, depth, syntax, rng, tags=DATA_TAGS, always_undefined=False):
+    """A list with this fault in a list that lies in `depth` sequences, or between the items of the
+    last of them. A command can nest only by sequences of undefined length."""
     def undefined():
         return rng.random() < 0.5
-    closed = not fault.at_end
-    if fault.between_items:
-        seq_open = fault.undefined if fault.undefined is not None else undefined()
-        inside = around(fault.data, syntax, seq_open, closed and rng.random() < 0.5, tags)
-        data = nest(inside, depth - 1, syntax, undefined, closed, tags)
-    else:
-        data = nest(fault.data, depth, syntax, undefined, closed, tags, fault.undefined)
-    return data
+
+    def sequence_undefined():
+        return always_undefined or undefined()
+
+    inside, closed = fault.data, not fault.at_end
+    ends = closed and not fault.closes
+    if depth > 0 and not fault.between_items:
+        inside = within(inside, undefined() if fault.undefined is None else fault.undefined, ends)
+        ends = closed
+    if depth > 0:
+        own = sequence_undefined()
+        if fault.between_items and fault.undefined is not None:
+            own = fault.undefined
+        inside = around(inside, syntax, own, ends, tags)
+    for _ in range(depth - 1):
+        inside = around(within(inside, undefined(), closed), syntax, sequence_undefined(), closed, tags)
+    return inside

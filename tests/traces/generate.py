@@ -245,8 +245,6 @@ def seeded(seed, headers=True):
                 wild(c)
             elif headers and choice < 0.06:
                 refused_headers(c)
-            elif choice < 0.08:
-                closed_calls(c)
             else:
                 rng.choice(DAMAGES)(c)
         else:

@@ -13,22 +13,24 @@ from program import HERE, Run
 KEPT = os.path.join(HERE, "kept")
 
 
-# These pick one case of many: some of them are kept.
-PICKING = (data_unreadable, odd_but_readable, bad_sent_uid, not_live, session_values, film_sets,
-           command_unreadable, command_refused_by_reader, refused_headers)
+# The syntax tells in these, so both are kept.
+IN_BOTH = (data_unreadable, fifth_sequence, four_sequences, odd_but_readable)
+
+# How many cases are kept, where it is not 10: the first two fill the buffer, the others have many.
+PICKS = {data_too_long: 3, cut_off: 3, data_unreadable: 70, command_refused_by_reader: 70,
+         command_unreadable: 30, refused_headers: 30, session_values: 20, film_values: 20}
 
 
-def damage_trace(function, seed):
-    """A damage in both syntaxes."""
-    c = Damaged(random.Random(seed))
+def damage_trace(function, i):
+    """Some cases of a damage."""
+    c = Damaged(random.Random(100 + i), False, PICKS.get(function, 10))
     c.start("1.9.7", 100, 1)
-    for syntax in (IMPLICIT, EXPLICIT):
+    for syntax in (IMPLICIT, EXPLICIT) if function in IN_BOTH else (IMPLICIT + i % 2,):
         c.open(1, syntax, 4096)
         c.create_session("1.9.70.5")
         c.create_film(2, 2, "1.9.70.6")
         c.create_film(1, 2)
-        for _ in range(6 if function in PICKING else 1):
-            function(c)
+        function(c)
         c.close()
     return c
 
@@ -168,8 +170,8 @@ def wild_trace(seed):
 
 def kept_traces():
     yield from ((name, make()) for name, make in EXAMPLES)
-    for i, function in enumerate(damages.DAMAGES + [refused_headers, closed_calls]):
-        yield "damage-" + function.__name__.replace("_", "-"), damage_trace(function, 100 + i)
+    for i, function in enumerate(damages.DAMAGES + [refused_headers]):
+        yield "damage-" + function.__name__.replace("_", "-"), damage_trace(function, i)
     yield "job-implicit", first_job(IMPLICIT)
     yield "job-explicit", first_job(EXPLICIT)
     for seed in (11, 12, 13):
