@@ -1,6 +1,5 @@
 #include "cover.h"
 
-#ifdef COVERAGE
 #include <stdio.h>
 
 static struct cover_point *reached;
@@ -18,6 +17,3 @@ void cover_print(void)
     for (const struct cover_point *p = reached; p != NULL; p = p->next)
         fprintf(stderr, "%lu\t%s\n", p->count, p->name);
 }
-#else
-typedef int cover_off;
-#endif

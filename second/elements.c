@@ -97,27 +97,74 @@ struct part whole_list(const uint8_t *bytes, size_t length, enum syntax syntax)
     return list;
 }
 
-/* The last of the tests on a header, on its length. */
-static int judge_length(const struct part *around, size_t value, uint32_t length, bool undefined,
-                        bool may_be_undefined)
+/* What a header says of the bytes after it. */
+struct extent {
+    size_t header; /* its own bytes */
+    uint32_t length;
+    bool undefined;
+    bool sequence; /* or an item: only these may be undefined */
+};
+
+static int judge_length(const struct part *around, size_t value, const struct extent *x)
 {
-    CHECK(undefined && !may_be_undefined, 5, "reader 5: undefined length not allowed");
-    CHECK(!undefined && length % 2 == 1, 2, "reader 2: odd length");
-    CHECK(!undefined && length > around->to - value, 1, "reader 1: value past the enclosing end");
+    CHECK(x->undefined && !x->sequence, 5, "reader 5: undefined length not allowed");
+    CHECK(!x->undefined && x->length % 2 == 1, 2, "reader 2: odd length");
+    CHECK(!x->undefined && x->length > around->to - value, 1,
+          "reader 1: value past the enclosing end");
     return 0;
 }
 
-static void set_value(struct element *e, const struct part *around, size_t value, uint32_t length,
-                      bool undefined)
+static void set_value(struct element *e, const struct part *around, size_t value,
+                      const struct extent *x)
 {
     e->value = *around;
     e->value.from = value;
-    e->value.to = undefined ? around->to : value + length;
-    e->value.undefined = undefined;
+    e->value.to = x->undefined ? around->to : value + x->length;
+    e->value.undefined = x->undefined;
     e->next = e->value.to;
 }
 
-/* The header at a place of a list; `before` is the tag before it, -1 for none. */
+/* Group FFFE in a list: only the item delimiter may stand there, to close it. */
+static int read_delimiter(const struct part *list, size_t at, struct element *e)
+{
+    CHECK(!list->undefined, 6, "reader 6: group FFFE in a list of defined length");
+    CHECK(e->tag != ITEM_DELIMITER, 6, "reader 6: group FFFE that does not close the list");
+    CHECK(number_32(list->bytes + at + 4) != 0, 6, "reader 6: item delimiter with a length");
+    COVER("list closed by its delimiter");
+    e->closes = true;
+    e->next = at + 8;
+    return 0;
+}
+
+static int judge_vr(const struct named *row, const uint8_t *header)
+{
+    const uint8_t *vr = header + 4;
+    CHECK(!is_known(vr), 4, "reader 4: unknown VR");
+    CHECK(is_long_form(vr) && number_16(header + 6) != 0, 4, "reader 4: long-form bytes not zero");
+    CHECK(!vr_suits(row, vr), 4, "reader 4: not the named tag's VR");
+    return 0;
+}
+
+/* An element's length and whether it is a sequence, in explicit VR and in implicit VR. */
+static void read_explicit(const uint8_t *header, struct extent *x)
+{
+    bool long_form = is_long_form(header + 4);
+    x->header = long_form ? 12 : 8;
+    x->length = long_form ? number_32(header + 8) : number_16(header + 6);
+    x->undefined = long_form && x->length == UNDEFINED;
+    x->sequence = same_vr(header + 4, "SQ");
+}
+
+static void read_implicit(const uint8_t *header, const struct named *row, struct extent *x)
+{
+    x->header = 8;
+    x->length = number_32(header + 4);
+    x->undefined = x->length == UNDEFINED;
+    x->sequence = row != NULL ? strcmp(row->vr, "SQ") == 0 : x->undefined;
+}
+
+/* The header at a place of a list; `before` is the tag before it, -1 for none. The refusals in
+   order: 1 cut short, 6, 3, 4, 5, 2, 1 past the end, 7. */
 static int read_header(const struct part *list, size_t at, int64_t before, struct element *e)
 {
     const uint8_t *header = list->bytes + at;
@@ -125,44 +172,27 @@ static int read_header(const struct part *list, size_t at, int64_t before, struc
     CHECK(left < 8, 1, "reader 1: header cut short of 8 bytes");
     e->tag = tag_at(header);
     e->closes = false;
-    bool delimiter = e->tag >> 16 == 0xFFFE; /* has no VR */
-    const uint8_t *vr = header + 4;
-    bool spells_vr = list->syntax == EXPLICIT && !delimiter;
-    bool long_form = spells_vr && is_long_form(vr);
-    CHECK(long_form && left < 12, 1, "reader 1: header cut short of 12 bytes");
-    if (delimiter) {
-        CHECK(!list->undefined, 6, "reader 6: group FFFE in a list of defined length");
-        CHECK(e->tag != ITEM_DELIMITER, 6, "reader 6: group FFFE that does not close the list");
-        CHECK(number_32(header + 4) != 0, 6, "reader 6: item delimiter with a length");
-        COVER("list closed by its delimiter");
-        e->closes = true;
-        e->next = at + 8;
-        return 0;
-    }
+    bool has_vr = list->syntax == EXPLICIT && e->tag >> 16 != 0xFFFE;
+    CHECK(has_vr && is_long_form(header + 4) && left < 12, 1,
+          "reader 1: header cut short of 12 bytes");
+    if (e->tag >> 16 == 0xFFFE)
+        return read_delimiter(list, at, e);
     CHECK((int64_t)e->tag <= before, 3, "reader 3: tag not above the one before");
     const struct named *row = named(e->tag);
-    if (spells_vr) {
-        CHECK(!is_known(vr), 4, "reader 4: unknown VR");
-        CHECK(long_form && number_16(header + 6) != 0, 4, "reader 4: long-form bytes not zero");
-        CHECK(!vr_suits(row, vr), 4, "reader 4: not the named tag's VR");
-    }
-    bool has_32_bits = !spells_vr || long_form;
-    uint32_t length = !spells_vr ? number_32(header + 4)
-                      : long_form ? number_32(header + 8)
-                                  : number_16(header + 6);
-    bool undefined = has_32_bits && length == UNDEFINED;
-    if (spells_vr)
-        e->sequence = same_vr(vr, "SQ");
-    else if (row != NULL)
-        e->sequence = strcmp(row->vr, "SQ") == 0;
-    else
-        e->sequence = undefined;
-    size_t value = at + (long_form ? 12 : 8);
-    int refusal = judge_length(list, value, length, undefined, e->sequence);
+    int refusal = has_vr ? judge_vr(row, header) : 0;
     if (refusal != 0)
         return refusal;
-    CHECK(e->sequence && list->depth == DEEPEST, 7, "reader 7: a fifth nested sequence");
-    set_value(e, list, value, length, undefined);
+    struct extent x;
+    if (has_vr)
+        read_explicit(header, &x);
+    else
+        read_implicit(header, row, &x);
+    refusal = judge_length(list, at + x.header, &x);
+    if (refusal != 0)
+        return refusal;
+    CHECK(x.sequence && list->depth == DEEPEST, 7, "reader 7: a fifth nested sequence");
+    e->sequence = x.sequence;
+    set_value(e, list, at + x.header, &x);
     return 0;
 }
 
@@ -199,15 +229,15 @@ static int read_item(const struct part *sequence, size_t at, struct element *ite
     }
     CHECK(item->tag == SEQUENCE_DELIMITER, 6, "reader 6: delimiter in a sequence of defined length");
     CHECK(item->tag != ITEM, 6, "reader 6: neither item nor delimiter between items");
-    bool undefined = length == UNDEFINED;
-    int refusal = judge_length(sequence, at + 8, length, undefined, true);
+    struct extent x = { 8, length, length == UNDEFINED, true };
+    int refusal = judge_length(sequence, at + 8, &x);
     if (refusal != 0)
         return refusal;
-    if (undefined)
+    if (x.undefined)
         COVER("item of undefined length");
     else
         COVER("item of defined length");
-    set_value(item, sequence, at + 8, length, undefined);
+    set_value(item, sequence, at + 8, &x);
     return read_list(&item->value, &item->next);
 }
 

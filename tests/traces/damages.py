@@ -17,6 +17,7 @@ class Damaged(Console):
     def __init__(self, rng, thorough=False, picks=1):
         super().__init__(rng)
         self.thorough, self.picks = thorough, picks
+        self.crowded = False    # makes many films
 
     def some(self, cases):
         cases = list(cases)
@@ -556,12 +557,10 @@ def cut_off(c):
     for request in c.some(c.sound_requests()):
         c.send(command(request.rows(True)), None, "wait")
         c.count("cut off in data")
-        if c.rng.random() < 0.6:
-            c.feed(fragment(c.context, 0, c.encode(c.passed_over())), "wait")
-        if c.rng.random() < 0.4:
-            c.count("cut off while skipping data")
-            c.feed(fragment(c.context, 0, bytes(c.length + 1)), "wait")
-    c.echo()
+        if c.rng.random() < 0.8:
+            data = c.encode(right(c.rng)[0] + c.passed_over())
+            c.feed(fragment(c.context, 0, data[:c.rng.randint(0, len(data))]), "wait")
+    after_cut(c)
 
 
 @damage
@@ -570,7 +569,14 @@ def cut_off_while_skipping(c):
     c.send(command(request.rows(True)), None, "wait")
     c.feed(fragment(c.context, 0, bytes(c.length + 1)), "wait")
     c.count("cut off while skipping data")
-    c.echo()
+    after_cut(c)
+
+
+def after_cut(c):
+    """The message that cuts off, mostly with a data set of its own."""
+    film, i = c.box()
+    c.rng.choice((c.echo, lambda: c.set_session(*right(c.rng)), lambda: c.move_box(film, i, film.places[i]),
+                  lambda: c.fill_box(film, i, film.places[i], c.small_picture())))()
 
 
 # ---- calls ----

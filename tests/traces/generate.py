@@ -135,7 +135,7 @@ def sound_step(c):
     if c.session is None:
         steps += [(30, add_session), (1, add_film)]
     else:
-        steps += [(12, add_film), (2, add_session), (2, Damaged.delete_session),
+        steps += [(60 if c.crowded else 12, add_film), (2, add_session), (2, Damaged.delete_session),
                   (6, Damaged.print_session), (4, set_session)]
     if c.films:
         steps += [(25, fill), (8, move), (8, print_one), (3, delete_one), (3, delete_twice), (4, set_one)]
@@ -234,11 +234,12 @@ def seeded(seed, headers=True):
     """The trace of a seed; without `headers`, no fragment header is refused."""
     rng = random.Random(seed)
     c = Damaged(rng)
-    theme = rng.choice(("sound", "sound", "damaged", "damaged", "wild", "ends"))
+    theme = rng.choice(("sound", "sound", "crowded", "damaged", "damaged", "wild", "ends"))
+    c.crowded = theme == "crowded"
     start_some(c, theme == "ends")
-    for _ in range(rng.randint(15, 40)):
+    for _ in range(rng.randint(20, 80)):
         choice = rng.random()
-        if choice < 0.03:
+        if choice < 0.02:
             start_some(c, theme == "ends")
         elif theme in ("damaged", "wild") and choice < 0.5 and ready(c):
             if theme == "wild" and choice < 0.3:
