@@ -2,3 +2,11 @@
 pub mod Packed
 pub mod StrikeOut
 pub mod Fakes
+pub mod Every
+pub mod Facts
+pub mod Laws
+pub mod Calls
+pub mod Sessions
+pub mod NewSession
+pub mod Boxes
+pub mod Named
