@@ -1,4 +1,5 @@
 -- Worked examples of the book, computed.
+pub mod Messages
 pub mod Stage
 pub mod Examples
 pub mod Worked
