@@ -10,3 +10,5 @@ pub mod Sessions
 pub mod NewSession
 pub mod Boxes
 pub mod Named
+pub mod Sized
+pub mod Good
