@@ -1,6 +1,6 @@
 -- Records that keep their rules, with arrays of their lengths, fit their fields: packed and unpacked, they are the same.
 -- Assumes nothing.
-use Prim.Native.Nat.{ℕ, zero, suc, _+_, _*_, _<_, _≤_}
+use Prim.Native.Nat.{ℕ, zero, suc, _+_, _*_, _%_, _<_, _≤_}
 use mathlib.Core.Path.{_≡_, refl, sym, ap, _∙_, subst}
 use mathlib.Core.Bool.{Bool, true, false}
 use mathlib.Core.List.{List, [], _∷_, _++_, append-assoc}
@@ -9,18 +9,34 @@ use lib.Dec.{eqb, leb, ltb}
 use lib.ListN.{length, getD, take, drop, length-take}
 use borrow.Author.Tests.{leb-true, ltb-true, eqb-true}
 use Rattle.choice.specs.Pick.{pick, both, either, not}
-use Rattle.choice.proofs.Picks.{both-true}
+use Rattle.choice.proofs.Picks.{pick-cases, both-true}
+use Rattle.octets.specs.Octets.{same}
+use Rattle.octets.proofs.Same.{same-equal}
 use Rattle.uids.specs.Uids.{digits, component, components, isUid, beginsWith}
 use Rattle.fields.specs.Format.{Format, byte, array}
-use Rattle.rules.specs.Bounds.{mostBoxes, rootLimit, noneLeft}
+use Rattle.rules.specs.Bounds.{leastRoom, mostRoom, mostFilms, mostBoxes, mostEntries, rootLimit, noneLeft}
+use Rattle.rules.specs.declared.Picture.{Picture}
 use Rattle.rules.specs.declared.Name.{Name}
+use Rattle.rules.specs.declared.Session.{Session}
+use Rattle.rules.specs.declared.ImageBox.{ImageBox}
+use Rattle.rules.specs.declared.Layout.{Layout}
+use Rattle.rules.specs.declared.Film.{Film}
+use Rattle.rules.specs.declared.Shelf.{Shelf}
+use Rattle.rules.specs.declared.Entry.{Entry}
+use Rattle.rules.specs.declared.Queue.{Queue}
 use Rattle.rules.specs.declared.Numbers.{Numbers}
-use Rattle.rules.specs.Records.{rootOf}
-use Rattle.rules.specs.Sound.{between, zeros, nameSound, sentSound, madeSound, nameBlank, numbersSound}
-use Rattle.rules.specs.Layout.{serialFormat, nameFormat, numbersFormat}
+use Rattle.rules.specs.declared.Opened.{Opened}
+use Rattle.rules.specs.declared.Core.{Core}
+use Rattle.rules.specs.Lists.{every, sum}
+use Rattle.rules.specs.Values.{trimmed, labelByte, labelAllowed}
+use Rattle.rules.specs.Records.{rootOf, boxCount, boxesOf, filmsOf, entriesOf, isLive}
+use Rattle.rules.specs.Sound.{between, zeros, flag, nameSound, sentSound, madeSound, nameBlank, numbersSound, sessionSound, sessionBlank, layoutSound, boxSound, boxBlank, filmSound, filmBlank, shelfSound, entrySound, entryBlank, queueSound, openSound, openedSound, coreSound}
+use Rattle.rules.specs.Layout.{serialFormat, pictureFormat, nameFormat, sessionFormat, boxFormat, layoutFormat, filmFormat, shelfFormat, entryFormat, queueFormat, numbersFormat, openedFormat, coreFormat}
 use Rattle.promises.proofs.Every.{all-true}
-use Rattle.promises.proofs.Facts.{between-true, numbers-facts}
-use Rattle.promises.proofs.Sized.{Each, each-at, each-append, each-join, each-told, each-so, NameSized, NumbersSized}
+use Rattle.promises.proofs.Facts.{between-true, core-facts, numbers-facts, shelf-facts, queue-facts}
+use Rattle.promises.proofs.Sessions.{LabelFacts, session-facts}
+use Rattle.promises.proofs.Laws.{box-facts, film-facts}
+use Rattle.promises.proofs.Sized.{Each, each-at, each-append, each-take, each-drop, each-join, each-told, each-so, NameSized, SessionSized, FilmSized, ShelfSized, EntrySized, QueueSized, NumbersSized, Sized}
 
 -- Arrays.
 
@@ -128,3 +144,278 @@ good-no-name name e s =
     let made = eqb-true (name .made .0) 0 (t .0) in
     let used = eqb-true (name .used) 0 (t .1 .0) in
     name-fits name (omega arith) (omega arith) (zero-bytes (name .text) (t .1 .1 .0)) s
+
+-- The session.
+
+label-bytes : (used : ℕ) (label : List ℕ) → LabelFacts used label → Each Byte label
+unfolding labelAllowed
+label-bytes used label f =
+    let front = take used label in
+    let allowed = both-true (leb (length (trimmed front)) 64) (every labelByte (trimmed front)) (f .allowed) .1 in
+    let small : (c : ℕ) → labelByte c ≡ true → c < 256 = λ c e.
+    (let h = leb-true c 0x7E (both-true (leb c 0x7E) (not (eqb c 0x5C)) (both-true (leb 0x20 c) (both (leb c 0x7E) (not (eqb c 0x5C))) e .1) .0) in omega arith) in
+    each-join Byte used label
+    (subst (Each Byte) (same-equal (trimmed front) front (f .bare)) (each-told Byte labelByte small (trimmed front) allowed))
+    (zero-bytes (drop used label) (f .behind))
+
+live-fits : (n : Numbers) (s : Session) → n .serial ≤ noneLeft → s .live ≤ 1 → sessionSound n s ≡ true → SessionSized s → sessionFormat .Good s
+unfolding sessionFormat
+live-fits n s h live e z =
+    let t = session-facts n s e in
+    let copies = between-true 1 99 (s .copies) (t .1 .copies) .1 in
+    let priority = leb-true (s .priority) 2 (t .1 .priority) in
+    let medium = leb-true (s .medium) 2 (t .1 .medium) in
+    let destination = leb-true (s .destination) 1 (t .1 .destination) in
+    let used = leb-true (s .used) 64 (t .1 .label .short) in
+    (omega arith, (good-name n (s .name) h (t .0) (z .name), (omega arith, (omega arith, (omega arith, (omega arith, (omega arith, good-array byte 64 (s .label) (z .label) (label-bytes (s .used) (s .label) (t .1 .label)))))))))
+
+no-session-fits : (s : Session) → s .live ≤ 1 → sessionBlank s ≡ true → SessionSized s → sessionFormat .Good s
+unfolding sessionFormat
+no-session-fits s live e z =
+    let values : List ℕ = s .copies ∷ s .priority ∷ s .medium ∷ s .destination ∷ s .used ∷ [] in
+    let t = all-true (nameBlank (s .name) ∷ zeros values ∷ zeros (s .label) ∷ []) e in
+    let v = zero-bytes values (t .1 .0) in
+    (omega arith, (good-no-name (s .name) (t .0) (z .name), (v .0, (v .1 .0, (v .1 .1 .0, (v .1 .1 .1 .0, (v .1 .1 .1 .1 .0, good-array byte 64 (s .label) (z .label) (zero-bytes (s .label) (t .1 .1 .0)))))))))
+
+session-cases : (n : Numbers) (s : Session) (live : Bool) → n .serial ≤ noneLeft → s .live ≤ 1 → pick live (sessionSound n s) (sessionBlank s) ≡ true → SessionSized s → sessionFormat .Good s
+session-cases n s true h k e z = live-fits n s h k e z
+session-cases n s false h k e z = no-session-fits s k e z
+
+pub good-session : (n : Numbers) (s : Session) → n .serial ≤ noneLeft → flag (s .live) ≡ true → pick (isLive s) (sessionSound n s) (sessionBlank s) ≡ true → SessionSized s → sessionFormat .Good s
+good-session n s h live e z = session-cases n s (isLive s) h (leb-true (s .live) 1 live) e z
+
+-- Layouts.
+
+abbrev layoutTests : Layout → List Bool
+layoutTests l =
+    between 1 6 (l .lines)
+    ∷ between 1 6 (getD (l .counts) 0 0)
+    ∷ every (eqb (getD (l .counts) 0 0)) (take (l .lines) (l .counts))
+    ∷ zeros (drop (l .lines) (l .counts))
+    ∷ []
+
+-- as many lines as there may be, and as many boxes in each
+pub record LayoutFacts (l : Layout) : Type 0 where
+  pub lines : (1 ≤ l .lines) × (l .lines ≤ 6)
+  pub first : (1 ≤ getD (l .counts) 0 0) × (getD (l .counts) 0 0 ≤ 6)
+  pub counts : Each (λ (c : ℕ). c ≤ 6) (take (l .lines) (l .counts))
+  pub behind : zeros (drop (l .lines) (l .counts)) ≡ true
+
+pub layout-facts : (l : Layout) → layoutSound l ≡ true → LayoutFacts l
+unfolding layoutSound
+layout-facts l e =
+    let t = all-true (layoutTests l) e in
+    let c = getD (l .counts) 0 0 in
+    let first = between-true 1 6 c (t .1 .0) in
+    record {
+      lines = between-true 1 6 (l .lines) (t .0);
+      first = first;
+      counts = each-told (λ (x : ℕ). x ≤ 6) (eqb c) (λ x h. let z = eqb-true c x h in omega (arith, first .1)) (take (l .lines) (l .counts)) (t .1 .1 .0);
+      behind = t .1 .1 .1 .0;
+    }
+
+sum-first : (n : ℕ) (xs : List ℕ) → 1 ≤ n → getD xs 0 0 ≤ sum (take n xs)
+unfolding sum
+sum-first zero xs h = absurd (omega arith)
+sum-first (suc n) [] h = omega arith
+sum-first (suc n) (x ∷ xs) h = omega arith
+
+sum-most : (xs : List ℕ) → Each (λ (c : ℕ). c ≤ 6) xs → sum xs ≤ 6 * length xs
+unfolding sum
+sum-most [] h = omega arith
+sum-most (x ∷ xs) h = let k = h .0 in let m = sum-most xs (h .1) in omega arith
+
+-- a film has a box, and no more than there are places
+pub box-count : (l : Layout) → layoutSound l ≡ true → (1 ≤ boxCount l) × (boxCount l ≤ mostBoxes)
+unfolding boxCount
+box-count l e =
+    let t = layout-facts l e in
+    let low = sum-first (l .lines) (l .counts) (t .lines .0) in
+    let high = sum-most (take (l .lines) (l .counts)) (t .counts) in
+    let few : length (take (l .lines) (l .counts)) ≤ 6 = simp length-take (omega (arith, t .lines .1)) in
+    (omega (arith, t .first .0), omega arith)
+
+few-bytes : (xs : List ℕ) → Each (λ (c : ℕ). c ≤ 6) xs → Each Byte xs
+few-bytes [] h = tt
+few-bytes (x ∷ xs) h = let k = h .0 in (omega arith, few-bytes xs (h .1))
+
+pub good-layout : (l : Layout) → layoutSound l ≡ true → length (l .counts) ≡ 6 → layoutFormat .Good l
+unfolding layoutFormat
+good-layout l e z =
+    let t = layout-facts l e in (
+      omega (arith, t .lines .1),
+      good-array byte 6 (l .counts) z
+          (each-join Byte (l .lines) (l .counts)
+          (few-bytes (take (l .lines) (l .counts)) (t .counts))
+          (zero-bytes (drop (l .lines) (l .counts)) (t .behind))),
+    )
+
+-- Pictures and boxes.
+
+good-picture : (n : Numbers) (p : Picture) → n .picture ≤ noneLeft → ltb (p .0) (n .picture) ≡ true → pictureFormat .Good p
+unfolding pictureFormat
+good-picture n p h e = let k = ltb-true (p .0) (n .picture) e in omega arith
+
+good-no-picture : (p : Picture) → eqb (p .0) 0 ≡ true → pictureFormat .Good p
+unfolding pictureFormat
+good-no-picture p e = let z = eqb-true (p .0) 0 e in omega arith
+
+pub good-box : (boxes : ℕ) (n : Numbers) (b : ImageBox) → boxes ≤ mostBoxes → n .picture ≤ noneLeft → boxSound boxes n b ≡ true → boxFormat .Good b
+unfolding boxFormat pictureFormat
+good-box boxes n b h k e =
+    let t = box-facts boxes n b e in
+    let position = between-true 1 boxes (b .position) (t .0) .1 in
+    let polarity = leb-true (b .polarity) 1 (t .1) in
+    let picture = ltb-true (b .picture .0) (n .picture) (t .2) in
+    (omega arith, (omega arith, omega arith))
+
+pub good-no-box : (b : ImageBox) → boxBlank b ≡ true → boxFormat .Good b
+unfolding boxFormat pictureFormat
+good-no-box b e =
+    let v = zero-bytes (b .position ∷ b .polarity ∷ b .picture .0 ∷ []) e in
+    (v .0, (v .1 .0, omega (arith, v .1 .1 .0)))
+
+-- Films.
+
+pub good-film : (n : Numbers) (f : Film) → n .serial ≤ noneLeft → n .picture ≤ noneLeft → filmSound n f ≡ true → FilmSized f → filmFormat .Good f
+unfolding filmFormat serialFormat boxesOf
+good-film n f h k e z =
+    let t = film-facts n f e in
+    let count = boxCount (f .layout) in
+    let some = box-count (f .layout) (t .layout) in
+    let orientation = leb-true (f .orientation) 1 (t .orientation) in
+    let magnification = leb-true (f .magnification) 3 (t .magnification) in
+    let last = leb-true (f .first .0 + count) (n .serial) (t .last) in (
+      good-name n (f .name) h (t .name) (z .name),
+      (
+        good-layout (f .layout) (t .layout) (z .counts),
+        (
+          omega arith,
+          (
+            omega arith,
+            (
+              omega (arith, some .0),
+              good-array boxFormat mostBoxes (f .boxes) (z .boxes)
+                  (each-join (boxFormat .Good) count (f .boxes)
+                  (each-told (boxFormat .Good) (boxSound count n) (λ b s. good-box count n b (some .1) k s) (take count (f .boxes)) (t .boxes))
+                  (each-told (boxFormat .Good) boxBlank good-no-box (drop count (f .boxes)) (t .behind))),
+            ),
+          ),
+        ),
+      ),
+    )
+
+pub good-no-film : (f : Film) → filmBlank f ≡ true → FilmSized f → filmFormat .Good f
+unfolding filmFormat serialFormat layoutFormat
+good-no-film f e z =
+    let values : List ℕ = f .layout .lines ∷ f .orientation ∷ f .magnification ∷ f .first .0 ∷ [] in
+    let t = all-true (nameBlank (f .name) ∷ zeros values ∷ zeros (f .layout .counts) ∷ every boxBlank (f .boxes) ∷ []) e in
+    let v = zero-bytes values (t .1 .0) in (
+      good-no-name (f .name) (t .0) (z .name),
+      (
+        (v .0, good-array byte 6 (f .layout .counts) (z .counts) (zero-bytes (f .layout .counts) (t .1 .1 .0))),
+        (
+          v .1 .0,
+          (
+            v .1 .1 .0,
+            (
+              omega (arith, v .1 .1 .1 .0),
+              good-array boxFormat mostBoxes (f .boxes) (z .boxes) (each-told (boxFormat .Good) boxBlank good-no-box (f .boxes) (t .1 .1 .1 .0)),
+            ),
+          ),
+        ),
+      ),
+    )
+
+most-films : (live : Bool) (count : ℕ) → leb count (pick live mostFilms 0) ≡ true → count ≤ mostFilms
+most-films true count e = leb-true count mostFilms e
+most-films false count e = let h = leb-true count 0 e in omega arith
+
+pub good-shelf : (n : Numbers) (s : Session) (shelf : Shelf) → n .serial ≤ noneLeft → n .picture ≤ noneLeft → shelfSound n s shelf ≡ true → ShelfSized shelf → shelfFormat .Good shelf
+unfolding shelfFormat filmsOf
+good-shelf n s shelf h k e z =
+    let t = shelf-facts n s shelf e in
+    let few = most-films (isLive s) (shelf .count) (t .count) in
+    let front = take (shelf .count) (shelf .films) in
+    let behind = drop (shelf .count) (shelf .films) in (
+      omega arith,
+      good-array filmFormat mostFilms (shelf .films) (z .films)
+          (each-join (filmFormat .Good) (shelf .count) (shelf .films)
+          (each-so FilmSized (filmSound n) (filmFormat .Good) (λ f. good-film n f h k) front (t .films) (each-take FilmSized (shelf .count) (shelf .films) (z .each)))
+          (each-so FilmSized filmBlank (filmFormat .Good) good-no-film behind (t .behind) (each-drop FilmSized (shelf .count) (shelf .films) (z .each)))),
+    )
+
+-- The queue.
+
+pub good-entry : (n : Numbers) (x : Entry) → n .serial ≤ noneLeft → n .picture ≤ noneLeft → entrySound n x ≡ true → EntrySized x → entryFormat .Good x
+unfolding entryFormat entrySound
+good-entry n x h k e z =
+    let below : Picture → Bool = λ (p : Picture). ltb (p .0) (n .picture) in
+    let t = all-true (every below (x .pictures) ∷ between 1 99 (x .copies) ∷ nameSound n (x .film) ∷ []) e in
+    let copies = between-true 1 99 (x .copies) (t .1 .0) .1 in (
+      good-array pictureFormat mostBoxes (x .pictures) (z .pictures) (each-told (pictureFormat .Good) below (λ p s. good-picture n p k s) (x .pictures) (t .0)),
+      (z .ticket, (omega arith, good-name n (x .film) h (t .1 .1 .0) (z .film))),
+    )
+
+pub good-no-entry : (x : Entry) → entryBlank x ≡ true → EntrySized x → entryFormat .Good x
+unfolding entryFormat
+good-no-entry x e z =
+    let zero-picture : Picture → Bool = λ (p : Picture). eqb (p .0) 0 in
+    let t = all-true (every zero-picture (x .pictures) ∷ zeros (x .ticket ∷ x .copies ∷ []) ∷ nameBlank (x .film) ∷ []) e in
+    let v = zero-bytes (x .ticket ∷ x .copies ∷ []) (t .1 .0) in (
+      good-array pictureFormat mostBoxes (x .pictures) (z .pictures) (each-told (pictureFormat .Good) zero-picture good-no-picture (x .pictures) (t .0)),
+      (z .ticket, (v .1 .0, good-no-name (x .film) (t .1 .1 .0) (z .film))),
+    )
+
+pub good-queue : (n : Numbers) (q : Queue) → n .serial ≤ noneLeft → n .picture ≤ noneLeft → queueSound n q ≡ true → QueueSized q → queueFormat .Good q
+unfolding queueFormat entriesOf
+good-queue n q h k e z =
+    let t = queue-facts n q e in
+    let few = leb-true (q .count) mostEntries (t .count) in
+    let front = take (q .count) (q .entries) in
+    let behind = drop (q .count) (q .entries) in (
+      omega arith,
+      good-array entryFormat mostEntries (q .entries) (z .entries)
+          (each-join (entryFormat .Good) (q .count) (q .entries)
+          (each-so EntrySized (entrySound n) (entryFormat .Good) (λ x. good-entry n x h k) front (t .entries) (each-take EntrySized (q .count) (q .entries) (z .each)))
+          (each-so EntrySized entryBlank (entryFormat .Good) good-no-entry behind (t .behind) (each-drop EntrySized (q .count) (q .entries) (z .each)))),
+    )
+
+-- What open fixed.
+
+opened-cases : (o : Opened) (closed : Bool) → o .live ≤ 1 → pick closed (zeros (o .context ∷ o .syntax ∷ o .room ∷ [])) (openSound o) ≡ true → openedFormat .Good o
+unfolding openedFormat
+opened-cases o true h e =
+    let v = zero-bytes (o .context ∷ o .syntax ∷ o .room ∷ []) e in
+    (omega arith, (v .0, (v .1 .0, omega (arith, v .1 .1 .0))))
+opened-cases o false h e =
+    let t = all-true (eqb (o .context % 2) 1 ∷ leb (o .context) 255 ∷ between 1 2 (o .syntax) ∷ between leastRoom mostRoom (o .room) ∷ []) e in
+    let context = leb-true (o .context) 255 (t .1 .0) in
+    let syntax = between-true 1 2 (o .syntax) (t .1 .1 .0) .1 in
+    let room = between-true leastRoom mostRoom (o .room) (t .1 .1 .1 .0) .1 in
+    (omega arith, (omega arith, (omega arith, omega arith)))
+
+pub good-opened : (o : Opened) → openedSound o ≡ true → openedFormat .Good o
+unfolding openedSound
+good-opened o e =
+    let t = both-true (flag (o .live)) (pick (eqb (o .live) 0) (zeros (o .context ∷ o .syntax ∷ o .room ∷ [])) (openSound o)) e in
+    opened-cases o (eqb (o .live) 0) (leb-true (o .live) 1 (t .0)) (t .1)
+
+-- The core.
+
+pub good-core : (k : Core) → coreSound k ≡ true → Sized k → coreFormat .Good k
+unfolding coreFormat
+good-core k e z =
+    let f = core-facts k e in
+    let n = numbers-facts (k .numbers) (f .numbers) in
+    let serial = between-true 1 noneLeft (k .numbers .serial) (n .serial) .1 in
+    let picture = between-true 1 noneLeft (k .numbers .picture) (n .picture) .1 in (
+      good-numbers (k .numbers) (f .numbers) (z .numbers),
+      (
+        good-session (k .numbers) (k .session) serial (f .live) (f .session) (z .session),
+        (
+          good-shelf (k .numbers) (k .session) (k .shelf) serial picture (f .shelf) (z .shelf),
+          (good-queue (k .numbers) (k .queue) serial picture (f .queue) (z .queue), good-opened (k .opened) (f .opened)),
+        ),
+      ),
+    )
