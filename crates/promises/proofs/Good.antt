@@ -10,11 +10,14 @@ use lib.ListN.{length, getD, take, drop, length-take}
 use borrow.Author.Tests.{leb-true, ltb-true, eqb-true}
 use Rattle.choice.specs.Pick.{pick, both, either, not}
 use Rattle.choice.proofs.Picks.{pick-cases, both-true}
-use Rattle.octets.specs.Octets.{same}
+use Rattle.octets.specs.Octets.{same, Bytes}
 use Rattle.octets.proofs.Same.{same-equal}
 use Rattle.uids.specs.Uids.{digits, component, components, isUid, beginsWith}
-use Rattle.fields.specs.Format.{Format, byte, array}
-use Rattle.rules.specs.Bounds.{leastRoom, mostRoom, mostFilms, mostBoxes, mostEntries, rootLimit, noneLeft}
+use Rattle.fields.specs.Format.{Format, byte, array, write}
+use Rattle.fields.proofs.Laws.{read-write}
+use Rattle.strike.specs.Machine as machine
+use Rattle.strike.specs.Machine.{idle, inCommand, skippingCommand, inData, skippingData, Records}
+use Rattle.rules.specs.Bounds.{commandLimit, leastRoom, mostRoom, mostFilms, mostBoxes, mostEntries, rootLimit, noneLeft}
 use Rattle.rules.specs.declared.Picture.{Picture}
 use Rattle.rules.specs.declared.Name.{Name}
 use Rattle.rules.specs.declared.Session.{Session}
@@ -27,16 +30,21 @@ use Rattle.rules.specs.declared.Queue.{Queue}
 use Rattle.rules.specs.declared.Numbers.{Numbers}
 use Rattle.rules.specs.declared.Opened.{Opened}
 use Rattle.rules.specs.declared.Core.{Core}
-use Rattle.rules.specs.Lists.{every, sum}
+use Rattle.rules.specs.declared.Input.{Input}
+use Rattle.rules.specs.declared.State.{State}
+use Rattle.rules.specs.Lists.{every, sum, filledTo}
 use Rattle.rules.specs.Values.{trimmed, labelByte, labelAllowed}
 use Rattle.rules.specs.Records.{rootOf, boxCount, boxesOf, filmsOf, entriesOf, isLive}
 use Rattle.rules.specs.Sound.{between, zeros, flag, nameSound, sentSound, madeSound, nameBlank, numbersSound, sessionSound, sessionBlank, layoutSound, boxSound, boxBlank, filmSound, filmBlank, shelfSound, entrySound, entryBlank, queueSound, openSound, openedSound, coreSound}
-use Rattle.rules.specs.Layout.{serialFormat, pictureFormat, nameFormat, sessionFormat, boxFormat, layoutFormat, filmFormat, shelfFormat, entryFormat, queueFormat, numbersFormat, openedFormat, coreFormat}
+use Rattle.rules.specs.Layout.{serialFormat, pictureFormat, nameFormat, sessionFormat, boxFormat, layoutFormat, filmFormat, shelfFormat, entryFormat, queueFormat, numbersFormat, openedFormat, coreFormat, inputFormat, stateFormat, recordsSize, unpack, pack}
+use Rattle.rules.specs.Outcomes.{held, inputHeld, written}
+use Rattle.rules.proofs.Sizes.{records-size}
+use Rattle.promises.proofs.Packed.{state-laws, unpack-pack, core-unpacked}
 use Rattle.promises.proofs.Every.{all-true}
 use Rattle.promises.proofs.Facts.{between-true, core-facts, numbers-facts, shelf-facts, queue-facts}
 use Rattle.promises.proofs.Sessions.{LabelFacts, session-facts}
 use Rattle.promises.proofs.Laws.{box-facts, film-facts}
-use Rattle.promises.proofs.Sized.{Each, each-at, each-append, each-take, each-drop, each-join, each-told, each-so, NameSized, SessionSized, FilmSized, ShelfSized, EntrySized, QueueSized, NumbersSized, Sized}
+use Rattle.promises.proofs.Sized.{Each, each-at, each-append, each-take, each-drop, each-join, each-filled, each-told, each-so, filled-length, NameSized, SessionSized, FilmSized, ShelfSized, EntrySized, QueueSized, NumbersSized, Sized}
 
 -- Arrays.
 
@@ -419,3 +427,55 @@ good-core k e z =
         ),
       ),
     )
+
+-- whatever input stands behind it
+pub core-back : (k : Core) (i : Input) → coreSound k ≡ true → Sized k → unpack (pack (record { core = k; input = i })) .core ≡ k
+core-back k i e z = core-unpacked (record { core = k; input = i }) (good-core k e z)
+
+-- The input.
+
+pub bytes-each : (s : List ℕ) → Bytes s → Each Byte s
+bytes-each [] o = tt
+bytes-each (c ∷ s) o = (o 0, bytes-each s (λ i. o (suc i)))
+
+abbrev pub CommandFits : List ℕ → Type 0
+CommandFits c = (length c ≤ commandLimit) × Each Byte c
+
+abbrev pub InputFits : machine.Input → Type 0
+InputFits idle = Unit {0}
+InputFits (inCommand c) = CommandFits c
+InputFits skippingCommand = Unit {0}
+InputFits (inData c d) = CommandFits c × (length d ≤ mostRoom)
+InputFits (skippingData c) = CommandFits c
+
+held-fits : (phase : ℕ) (c : List ℕ) (got : ℕ) → phase < 256 → CommandFits c → got ≤ mostRoom → inputFormat .Good (held phase c got)
+unfolding inputFormat
+held-fits phase c got h f k =
+    let short = f .0 in
+    (h, (omega arith, (omega arith, good-array byte commandLimit (filledTo commandLimit 0 c) (filled-length commandLimit 0 c short) (each-filled Byte commandLimit 0 c (f .1) (omega arith)))))
+
+pub good-input : (i : machine.Input) → InputFits i → inputFormat .Good (inputHeld i)
+unfolding inputHeld
+good-input idle f = held-fits 0 [] 0 (omega arith) (omega arith, tt) (omega arith)
+good-input (inCommand c) f = held-fits 1 c 0 (omega arith) f (omega arith)
+good-input skippingCommand f = held-fits 2 [] 0 (omega arith) (omega arith, tt) (omega arith)
+good-input (inData c d) f = held-fits 3 c (length d) (omega arith) (f .0) (f .1)
+good-input (skippingData c) f = held-fits 4 c 0 (omega arith) f (omega arith)
+
+-- The whole.
+
+-- the records' fields, as a step leaves them
+abbrev pub stateOf : Records Core → State
+stateOf r = record { core = r .core; input = inputHeld (r .input) }
+
+pub good-state : (r : Records Core) → coreSound (r .core) ≡ true → Sized (r .core) → InputFits (r .input) → stateFormat .Good (stateOf r)
+unfolding stateFormat
+good-state r e z f = (good-core (r .core) e z, good-input (r .input) f)
+
+pub state-back : (r : Records Core) → coreSound (r .core) ≡ true → Sized (r .core) → InputFits (r .input) → unpack (pack (stateOf r)) ≡ stateOf r
+state-back r e z f = unpack-pack (stateOf r) (good-state r e z f)
+
+-- what a call wrote, the next call unpacks
+pub written-back : (r : Records Core) (b : List ℕ) → recordsSize ≤ length b → coreSound (r .core) ≡ true → Sized (r .core) → InputFits (r .input) → unpack (written r b) ≡ stateOf r
+unfolding written unpack pack write
+written-back r b h e z f = read-write state-laws (stateOf r) b 0 (good-state r e z f) (omega (arith, records-size))

@@ -5,7 +5,7 @@ use mathlib.Core.Path.{_≡_, refl, subst}
 use mathlib.Core.Bool.{Bool, true}
 use mathlib.Core.List.{List, [], _∷_, _++_}
 use native.Mathlib.Omega.{arith}
-use lib.ListN.{length, getD, set, take, drop, replicate, take-append-drop}
+use lib.ListN.{length, getD, set, take, drop, replicate, length-append, length-replicate, take-append-drop}
 use Rattle.choice.proofs.Picks.{both-true}
 use Rattle.rules.specs.Bounds.{mostFilms, mostBoxes, mostEntries, rootLimit, tickets}
 use Rattle.rules.specs.declared.Name.{Name}
@@ -76,6 +76,9 @@ module _ {A : Type 0} (P : A → Type 0) where
   each-so test Q f (x ∷ xs) e h =
       let t = both-true (test x) (every test xs) e in
       (f x (t .0) (h .0), each-so test Q f xs (t .1) (h .1))
+
+pub filled-length : {A : Type 0} (n : ℕ) (blank : A) (xs : List A) → length xs ≤ n → length (filledTo n blank xs) ≡ n
+filled-length n blank xs h = simp (length-append, length-replicate) (omega arith)
 
 -- What the rules of the records do not say: how long arrays are, and that tickets fit their fields.
 
