@@ -53,7 +53,7 @@ good-array f n xs e h = (e, λ i k. each-at (f .Good) xs i (f .blank) h (omega a
 
 -- Bytes.
 
-abbrev Byte : ℕ → Type 0
+abbrev pub Byte : ℕ → Type 0
 Byte b = b < 256
 
 zero-bytes : (s : List ℕ) → zeros s ≡ true → Each Byte s
@@ -228,7 +228,7 @@ sum-first zero xs h = absurd (omega arith)
 sum-first (suc n) [] h = omega arith
 sum-first (suc n) (x ∷ xs) h = omega arith
 
-sum-most : (xs : List ℕ) → Each (λ (c : ℕ). c ≤ 6) xs → sum xs ≤ 6 * length xs
+pub sum-most : (xs : List ℕ) → Each (λ (c : ℕ). c ≤ 6) xs → sum xs ≤ 6 * length xs
 unfolding sum
 sum-most [] h = omega arith
 sum-most (x ∷ xs) h = let k = h .0 in let m = sum-most xs (h .1) in omega arith

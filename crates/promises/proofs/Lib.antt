@@ -12,3 +12,4 @@ pub mod Boxes
 pub mod Named
 pub mod Sized
 pub mod Good
+pub mod SizedAfter

@@ -30,6 +30,12 @@ module _ {A : Type 0} (P : A → Type 0) where
   each-at (x ∷ xs) zero d h k = h .0
   each-at (x ∷ xs) (suc i) d h k = each-at xs i d (h .1) (omega arith)
 
+  -- behind the list's end is the default
+  pub each-or : (xs : List A) (i : ℕ) (d : A) → Each P xs → P d → P (getD xs i d)
+  each-or [] i d h k = k
+  each-or (x ∷ xs) zero d h k = h .0
+  each-or (x ∷ xs) (suc i) d h k = each-or xs i d (h .1) k
+
   pub each-append : (xs ys : List A) → Each P xs → Each P ys → Each P (xs ++ ys)
   each-append [] ys h k = k
   each-append (x ∷ xs) ys h k = (h .0, each-append xs ys (h .1) k)
