@@ -1,7 +1,7 @@
 -- Records that keep their rules, with arrays of their lengths, fit their fields: packed and unpacked, they are the same.
 -- Assumes nothing.
 use Prim.Native.Nat.{ℕ, zero, suc, _+_, _*_, _%_, _<_, _≤_}
-use mathlib.Core.Path.{_≡_, refl, sym, ap, _∙_, subst}
+use mathlib.Core.Path.{_≡_, refl, subst}
 use mathlib.Core.Bool.{Bool, true, false}
 use mathlib.Core.List.{List, [], _∷_, _++_, append-assoc}
 use native.Mathlib.Omega.{arith}
@@ -9,7 +9,7 @@ use lib.Dec.{eqb, leb, ltb}
 use lib.ListN.{length, getD, take, drop, length-take}
 use borrow.Author.Tests.{leb-true, ltb-true, eqb-true}
 use Rattle.choice.specs.Pick.{pick, both, either, not}
-use Rattle.choice.proofs.Picks.{pick-cases, both-true}
+use Rattle.choice.proofs.Picks.{both-true}
 use Rattle.octets.specs.Octets.{same, Bytes}
 use Rattle.octets.proofs.Same.{same-equal}
 use Rattle.uids.specs.Uids.{digits, component, components, isUid, beginsWith}

@@ -1,6 +1,6 @@
 -- Arrays have their lengths after each call and each request that is done.
 -- Assumes nothing.
-use Prim.Native.Nat.{ℕ, zero, suc, _+_, _-_, _*_, _%_, _<_, _≤_}
+use Prim.Native.Nat.{ℕ, suc, _+_, _-_, _<_, _≤_}
 use mathlib.Core.Path.{_≡_, refl, ap, _∙_}
 use mathlib.Core.Bool.{Bool, true, false}
 use mathlib.Core.List.{List, [], _∷_, _++_, map}
@@ -9,15 +9,13 @@ use native.Mathlib.Nat.{mod-lt}
 use lib.Dec.{eqb, leb, ltb}
 use lib.ListN.{length, getD, set, take, drop, replicate, length-append, length-take, length-drop, length-set, length-map, length-replicate}
 use borrow.Author.Tests.{leb-true, ltb-false, eqb-false}
-use Rattle.choice.specs.Pick.{pick, both, either, not}
+use Rattle.choice.specs.Pick.{pick, both, not}
 use Rattle.choice.proofs.Picks.{Kept, pick-cases, both-true, either-false}
 use Rattle.octets.specs.Octets.{same}
 use Rattle.uids.specs.Uids.{isUid, components}
 use Rattle.headers.specs.declared.Part.{Part}
 use Rattle.rules.specs.Bounds.{mostFilms, mostBoxes, mostEntries, rootLimit, tickets}
-use Rattle.rules.specs.declared.Name.{Name}
 use Rattle.rules.specs.declared.Session.{Session}
-use Rattle.rules.specs.declared.ImageBox.{ImageBox}
 use Rattle.rules.specs.declared.Film.{Film}
 use Rattle.rules.specs.declared.Shelf.{Shelf}
 use Rattle.rules.specs.declared.Entry.{Entry}
@@ -25,11 +23,11 @@ use Rattle.rules.specs.declared.Queue.{Queue}
 use Rattle.rules.specs.declared.Numbers.{Numbers}
 use Rattle.rules.specs.declared.Core.{Core}
 use Rattle.rules.specs.Text.{chars}
-use Rattle.rules.specs.Lists.{every, sum, from, filledTo, without}
+use Rattle.rules.specs.Lists.{every, from, filledTo, without}
 use Rattle.rules.specs.Values.{withoutTrailing, trimmed, blank, labelByte, labelAllowed, oneToSix, standard, countsIn}
-use Rattle.rules.specs.Records.{madeName, sentName, boxCount, boxesOf, noBox, noFilm, filmsOf, shelved, noEntry, entriesOf, queued, noSession, newSession, serialsUsed}
+use Rattle.rules.specs.Records.{madeName, sentName, boxCount, boxesOf, noBox, noFilm, filmsOf, shelved, noEntry, entriesOf, queued, noSession, newSession}
 use Rattle.rules.specs.Attributes.{Listing, look, valueOf, missing, wrong, mandatory, optional, is, attributeRules, sessionStandings, sessionWith, filmWith, layoutIn, Image, keeps, erases, tooMany, fills, imageIn}
-use Rattle.rules.specs.Effects.{nameFrom, ownSerials, nextTicket, renamed, sessionCreated, newBox, newFilm, filmSerials, filmCreated, sessionSet, filmAt, filmSet, boxSetIn, numbersAfter, boxSet, sessionDeleted, filmDeleted, pictureOn, entryOf, entriesFor, ticketAfter, printed, queueRoom}
+use Rattle.rules.specs.Effects.{nameFrom, nextTicket, sessionCreated, newBox, newFilm, filmCreated, sessionSet, filmAt, filmSet, boxSetIn, numbersAfter, boxSet, sessionDeleted, filmDeleted, pictureOn, entryOf, entriesFor, ticketAfter, printed, queueRoom}
 use Rattle.rules.specs.Checks.{createRules, newSessionRules, newFilmRules, sentUid, sessionPrintRules, filmPrintRules}
 use Rattle.rules.specs.Calls.{Handed, startRules, started, opened, closed, taken}
 use Rattle.promises.proofs.Every.{none-at, take-filled}
