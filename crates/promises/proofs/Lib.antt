@@ -13,3 +13,4 @@ pub mod Named
 pub mod Sized
 pub mod Good
 pub mod SizedAfter
+pub mod SizedSteps
