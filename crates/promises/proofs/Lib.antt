@@ -14,3 +14,4 @@ pub mod Sized
 pub mod Good
 pub mod SizedAfter
 pub mod SizedSteps
+pub mod Unpacked

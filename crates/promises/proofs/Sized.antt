@@ -30,6 +30,11 @@ module _ {A : Type 0} (P : A → Type 0) where
   each-at (x ∷ xs) zero d h k = h .0
   each-at (x ∷ xs) (suc i) d h k = each-at xs i d (h .1) (omega arith)
 
+  -- what holds at each place
+  pub each-all : (xs : List A) (d : A) → ((i : ℕ) → i < length xs → P (getD xs i d)) → Each P xs
+  each-all [] d f = tt
+  each-all (x ∷ xs) d f = (f 0 (omega arith), each-all xs d (λ i h. f (suc i) (omega arith)))
+
   -- behind the list's end is the default
   pub each-or : (xs : List A) (i : ℕ) (d : A) → Each P xs → P d → P (getD xs i d)
   each-or [] i d h k = k
