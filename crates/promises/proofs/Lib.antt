@@ -15,3 +15,4 @@ pub mod Good
 pub mod SizedAfter
 pub mod SizedSteps
 pub mod Unpacked
+pub mod Next
