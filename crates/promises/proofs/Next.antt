@@ -34,9 +34,10 @@ use Rattle.promises.proofs.Facts.{between-true, core-facts}
 use Rattle.promises.proofs.Named.{passes-kept}
 use Rattle.promises.proofs.Calls.{started-sound, opened-sound, closed-sound, taken-sound}
 use Rattle.promises.proofs.Good.{CommandFits, InputFits, stateOf, written-back}
+use Rattle.promises.proofs.Sized.{Sized}
 use Rattle.promises.proofs.SizedAfter.{started-sized}
 use Rattle.promises.proofs.SizedSteps.{step-sized}
-use Rattle.promises.proofs.Unpacked.{unpacked-sized, unpacked-fits, CallBytes, step-fits}
+use Rattle.promises.proofs.Unpacked.{unpacked-sized, unpacked-command, CallBytes, step-fits}
 
 -- What the rules say of the input, as the machine has it: there is none while not open, data has a readable command and fits the buffer.
 
@@ -243,20 +244,38 @@ pub sound-parts : (b : List ℕ) → sound (unpack b) ≡ true → (coreSound (u
 unfolding sound
 sound-parts b e = both-true (coreSound (unpack b .core)) (inputSound (unpack b .core .opened) (unpack b .input)) e
 
-state-sound : (r : Records Core) → coreSound (r .core) ≡ true → InputFits (r .input) → InputRight (r .core .opened) (r .input) → sound (stateOf r) ≡ true
+-- what a call left is packed in bytes that keep the rules
+pub written-sound : (r : Records Core) (b : List ℕ) → recordsSize ≤ length b → coreSound (r .core) ≡ true → Sized (r .core) → InputFits (r .input) → InputRight (r .core .opened) (r .input) → sound (unpack (written r b)) ≡ true
 unfolding sound
-state-sound r e f g = both-holds (coreSound (r .core)) (inputSound (r .core .opened) (inputHeld (r .input))) e (input-sound (r .core .opened) (r .input) f g)
+written-sound r b long e z f g =
+    ap sound (written-back r b long e z f)
+    ∙ both-holds (coreSound (r .core)) (inputSound (r .core .opened) (inputHeld (r .input))) e (input-sound (r .core .opened) (r .input) f g)
 
-module _ (b message : List ℕ) (c : Call Handed) (o : Bytes b) (long : recordsSize ≤ length b) (room : length message ≤ mostRoom) (bytes : CallBytes c) (e : sound (unpack b) ≡ true) where
+-- data that fits the message buffer fits its field
+right-fits : (o : Opened) (i : Input) (message : List ℕ) → o .room ≤ mostRoom → CommandFits (commandHeld i) → InputRight o (inputIn i message) → InputFits (inputIn i message)
+unfolding inputIn
+right-fits o i message h c =
+    let Fits : machine.Input → Type 0 = λ (x : machine.Input). InputRight o x → InputFits x in
+    pick-cases Fits (eqb (i .phase) 1) (inCommand (commandHeld i)) _ (λ e r. c)
+    (λ e. pick-cases Fits (eqb (i .phase) 2) skippingCommand _ (λ f r. tt)
+    (λ f. pick-cases Fits (eqb (i .phase) 3) (inData (commandHeld i) (take (i .got) message)) _ (λ g r. (c, omega (arith, r .1 .1)))
+    (λ g. pick-cases Fits (eqb (i .phase) 4) (skippingData (commandHeld i)) idle (λ j r. c) (λ j r. tt))))
+
+module _ (b message : List ℕ) (c : Call Handed) (o : Bytes b) (bytes : CallBytes c) (e : sound (unpack b) ≡ true) where
+  before-right : InputRight (unpack b .core .opened) (inputIn (unpack b .input) message)
+  before-right = input-right (unpack b .core .opened) (unpack b .input) message (sound-parts b e .1)
+
   after-fits : InputFits (after b message c .input)
-  after-fits = step-fits (recordsIn (unpack b) message) c (room-most (unpack b .core .opened) (core-facts (unpack b .core) (sound-parts b e .0) .opened)) (unpacked-fits b message o room) bytes
+  after-fits =
+      let room = room-most (unpack b .core .opened) (core-facts (unpack b .core) (sound-parts b e .0) .opened) in
+      step-fits (recordsIn (unpack b) message) c room (right-fits (unpack b .core .opened) (unpack b .input) message room (unpacked-command b o) before-right) bytes
 
   -- the next call unpacks what this one left
-  pub next-unpacks : coreSound (after b message c .core) ≡ true → unpack (written (after b message c) b) ≡ stateOf (after b message c)
-  next-unpacks h = written-back (after b message c) b long h (step-sized (recordsIn (unpack b) message) c (unpacked-sized b o)) after-fits
+  pub next-unpacks : recordsSize ≤ length b → coreSound (after b message c .core) ≡ true → unpack (written (after b message c) b) ≡ stateOf (after b message c)
+  next-unpacks long h = written-back (after b message c) b long h (step-sized (recordsIn (unpack b) message) c (unpacked-sized b o)) after-fits
 
   -- and finds that it keeps the rules
-  pub next-sound : coreSound (after b message c .core) ≡ true → sound (unpack (written (after b message c) b)) ≡ true
-  next-sound h =
-      ap sound (next-unpacks h)
-      ∙ state-sound (after b message c) h after-fits (step-right (recordsIn (unpack b) message) c (input-right (unpack b .core .opened) (unpack b .input) message (sound-parts b e .1)))
+  pub next-sound : recordsSize ≤ length b → coreSound (after b message c .core) ≡ true → sound (unpack (written (after b message c) b)) ≡ true
+  next-sound long h =
+      written-sound (after b message c) b long h (step-sized (recordsIn (unpack b) message) c (unpacked-sized b o)) after-fits
+      (step-right (recordsIn (unpack b) message) c before-right)

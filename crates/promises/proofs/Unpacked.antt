@@ -1,4 +1,4 @@
--- Arrays have their lengths, and the input fits its fields, in whatever bytes are unpacked; and the input fits them after every call.
+-- Arrays have their lengths, and the command half collected fits its field, in whatever bytes are unpacked; the input fits its fields after every call.
 -- Assumes nothing.
 use Prim.Native.Nat.{ℕ, _+_, _/_, _%_, _<_, _≤_}
 use mathlib.Core.Path.{_≡_, refl}
@@ -29,7 +29,7 @@ use Rattle.rules.specs.Layout.{nameFormat, sessionFormat, layoutFormat, filmFor
 use Rattle.rules.specs.Responses.{Reply}
 use Rattle.rules.specs.Checks.{decide}
 use Rattle.rules.specs.Calls.{Handed, check, printing, reading}
-use Rattle.rules.specs.Outcomes.{commandHeld, inputIn}
+use Rattle.rules.specs.Outcomes.{commandHeld}
 use Rattle.promises.proofs.Packed.{state-laws}
 use Rattle.promises.proofs.Sized.{Each, each-all, each-append, each-take, each-drop, NameSized, SessionSized, FilmSized, ShelfSized, EntrySized, QueueSized, NumbersSized, Sized}
 use Rattle.promises.proofs.Good.{Byte, CommandFits, InputFits}
@@ -100,19 +100,9 @@ command-held i g =
     let e : length (i .command) ≡ commandLimit = g .1 .1 .1 .0 in
     (simp length-take (omega arith), each-take Byte (i .used) (i .command) (each-all Byte (i .command) 0 (λ j h. g .1 .1 .1 .1 j (omega arith))))
 
-input-long : (i : Input) (message : List ℕ) → length message ≤ mostRoom → CommandFits (commandHeld i) → InputFits (inputIn i message)
-unfolding inputIn
-input-long i message h c =
-    let c2 = commandHeld i in
-    let data-held : length (take (i .got) message) ≤ mostRoom = simp length-take (omega arith) in
-    pick-cases InputFits (eqb (i .phase) 1) (inCommand c2) _ (λ e. c)
-    (λ e. pick-cases InputFits (eqb (i .phase) 2) skippingCommand _ (λ f. tt)
-    (λ f. pick-cases InputFits (eqb (i .phase) 3) (inData c2 (take (i .got) message)) _ (λ g. (c, data-held))
-    (λ g. pick-cases InputFits (eqb (i .phase) 4) (skippingData c2) idle (λ j. c) (λ j. tt))))
-
-pub unpacked-fits : (b message : List ℕ) → Bytes b → length message ≤ mostRoom → InputFits (inputIn (unpack b .input) message)
+pub unpacked-command : (b : List ℕ) → Bytes b → CommandFits (commandHeld (unpack b .input))
 unfolding stateFormat
-unpacked-fits b message o h = input-long (unpack b .input) message h (command-held (unpack b .input) (unpacked-good b o .1))
+unpacked-command b o = command-held (unpack b .input) (unpacked-good b o .1)
 
 -- A fragment.
 
