@@ -10,7 +10,7 @@ use lib.ListN.{length, getD, take, drop, length-take}
 use borrow.Author.Tests.{leb-true, ltb-true, eqb-true}
 use Rattle.choice.specs.Pick.{pick, both, either, not}
 use Rattle.choice.proofs.Picks.{both-true}
-use Rattle.octets.specs.Octets.{same, Bytes}
+use Rattle.octets.specs.Octets.{Bytes}
 use Rattle.octets.proofs.Same.{same-equal}
 use Rattle.uids.specs.Uids.{digits, component, components, isUid, beginsWith}
 use Rattle.fields.specs.Format.{Format, byte, array, write}

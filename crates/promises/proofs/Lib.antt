@@ -16,3 +16,4 @@ pub mod SizedAfter
 pub mod SizedSteps
 pub mod Unpacked
 pub mod Next
+pub mod NextCalls

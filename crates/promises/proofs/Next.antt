@@ -1,7 +1,7 @@
 -- The next call: where a call left a core that keeps its rules, the bytes that it wrote keep theirs.
 -- Assumes nothing.
 use Prim.Native.Nat.{ℕ, suc, _%_, _≤_}
-use mathlib.Core.Path.{_≡_, refl, sym, ap, _∙_}
+use mathlib.Core.Path.{_≡_, refl, ap, _∙_}
 use mathlib.Core.Bool.{Bool, true, false}
 use mathlib.Core.List.{List, [], _∷_, _++_}
 use mathlib.Core.Option.{Option, none, some}
@@ -10,7 +10,7 @@ use lib.Dec.{eqb, leb}
 use lib.ListN.{length, take, drop, length-take}
 use borrow.Author.Tests.{leb-true, le-leb, eqb-true}
 use Rattle.choice.specs.Pick.{pick, both, not}
-use Rattle.choice.proofs.Picks.{Kept, pick-cases, both-true, both-holds, not-true, not-false, clash}
+use Rattle.choice.proofs.Picks.{pick-cases, both-true, both-holds, not-true, not-false, clash}
 use Rattle.octets.specs.Octets.{Bytes}
 use Rattle.strike.specs.Service.{DataSet, whole, tooLong, Result, fails, does, Reading, unreadable, alone, withData, Call, start, opening, feed, close, aside, Check, passes, refuses}
 use Rattle.strike.specs.Machine as machine
@@ -27,15 +27,13 @@ use Rattle.rules.specs.Responses.{Reply}
 use Rattle.rules.specs.Checks.{decide}
 use Rattle.rules.specs.Layout.{recordsSize, unpack}
 use Rattle.rules.specs.Sound.{between, zeros, flag, openSound, openedSound, coreSound, readable, phaseSound, inputSound, sound}
-use Rattle.rules.specs.Calls.{Handed, startRules, openRules, feedRules, check, started, opened, closed, taken, readingOf, reading, printing}
+use Rattle.rules.specs.Calls.{Handed, feedRules, check, opened, closed, taken, readingOf, reading, printing}
 use Rattle.rules.specs.Outcomes.{commandHeld, inputIn, held, inputHeld, recordsIn, written}
 use Rattle.promises.proofs.Every.{all-true, all-holds, take-filled, behind-filled}
 use Rattle.promises.proofs.Facts.{between-true, core-facts}
 use Rattle.promises.proofs.Named.{passes-kept}
-use Rattle.promises.proofs.Calls.{started-sound, opened-sound, closed-sound, taken-sound}
 use Rattle.promises.proofs.Good.{CommandFits, InputFits, stateOf, written-back}
 use Rattle.promises.proofs.Sized.{Sized}
-use Rattle.promises.proofs.SizedAfter.{started-sized}
 use Rattle.promises.proofs.SizedSteps.{step-sized}
 use Rattle.promises.proofs.Unpacked.{unpacked-sized, unpacked-command, CallBytes, step-fits}
 

@@ -5,7 +5,7 @@ use mathlib.Core.Path.{_≡_, refl}
 use mathlib.Core.List.{List, [], _∷_, _++_}
 use mathlib.Core.Option.{Option, none, some}
 use lib.Dec.{eqb}
-use Rattle.choice.specs.Rules.{Rule, _⇒_}
+use Rattle.choice.specs.Rules.{_⇒_}
 use Rattle.choice.specs.Pick.{not}
 use Rattle.choice.proofs.Picks.{Kept, first-cases}
 use Rattle.headers.specs.declared.Part.{Part}
