@@ -10,3 +10,10 @@ pub mod Sessions
 pub mod NewSession
 pub mod Boxes
 pub mod Named
+pub mod Held
+pub mod Fitting
+pub mod ReadBack
+pub mod FilmBack
+pub mod CreatedFilm
+pub mod NewFilm
+pub mod Replies
