@@ -35,3 +35,4 @@ pub mod Filled
 pub mod Inputs
 pub mod Keeping
 pub mod Kept
+pub mod Run
