@@ -1,0 +1,314 @@
+-- The rules of the records are kept where a film is created.
+-- Assumes nothing.
+use Prim.Native.Nat.{ℕ, _+_, _-_, _≤_}
+use mathlib.Core.Path.{_≡_, refl, _∙_}
+use mathlib.Core.Bool.{Bool, true, false}
+use mathlib.Core.List.{List, [], _∷_, _++_, map}
+use native.Mathlib.Omega.{arith}
+use lib.Dec.{eqb, leb}
+use lib.ListN.{length, replicate, length-append, length-map}
+use lib.Seq.{take-append-seam, take-at, drop-at}
+use borrow.Author.Tests.{ltb-false, leb-true, le-leb, eqb-false}
+use Rattle.choice.specs.Pick.{pick, both, not}
+use Rattle.choice.proofs.Picks.{Kept, pick-cases, both-true, both-holds, both-second, either-false, not-true, clash}
+use Rattle.octets.specs.Octets.{same}
+use Rattle.headers.specs.declared.Part.{Part}
+use Rattle.rules.specs.declared.Name.{Name}
+use Rattle.rules.specs.declared.Session.{Session}
+use Rattle.rules.specs.declared.Film.{Film}
+use Rattle.rules.specs.declared.Numbers.{Numbers}
+use Rattle.rules.specs.declared.Core.{Core}
+use Rattle.rules.specs.Bounds.{mostBoxes, noneLeft}
+use Rattle.rules.specs.Lists.{every, any, apart, from, filledTo}
+use Rattle.rules.specs.Values.{blank, countsIn}
+use Rattle.rules.specs.Records.{serial, madeName, sentName, rootOf, uidOf, boxCount, boxesOf, noBox, isLive, filmsOf, filmNamed, boxNamed, nobody, theSession, theFilm, theBox, named, serialsUsed}
+use Rattle.rules.specs.Attributes.{Listing, look, valueOf, is, wrong, fine, mandatory, reference, optionalFilm, filmCreateStandings, filmWith, layoutIn}
+use Rattle.rules.specs.Effects.{ownSerials, nameFrom, newBox, newFilm, filmSerials, filmCreated}
+use Rattle.rules.specs.Checks.{isNobody, createRules, newFilmRules, sentUid}
+use Rattle.rules.specs.Sound.{numbersSound, nameSound, sessionSound, sessionBlank, layoutSound, boxBlank, filmSound, Serials, overlap, ownSerial, serialsOf, sentText, sameText, uidsApart, coreSound}
+use Rattle.promises.proofs.ListLaws.{films-shelved, all-holds, holds-all, every-weak, every-append, every-nil, every-one, every-cons, every-parts, every-replicate, apart-one, apart-append, map-append}
+use Rattle.promises.proofs.Codes.{any-behind}
+use Rattle.promises.proofs.Standings.{AllFine, kept-fine, fine-front, mandatory-fine, reference-live}
+use Rattle.promises.proofs.Layouts.{counts-grid, layout-sound, from-length, new-boxes, between-holds}
+use Rattle.promises.proofs.Later.{Counted, counted, film-name-sound, Later, session-later, film-later, queue-later}
+use Rattle.promises.proofs.Names.{Sendable, sendable, name-from-sound, apart-later, apart-none, own-below, text-none, text-free}
+use Rattle.promises.proofs.Films.{rules-of, of-rules, filmRoom, films-of, shelf-of, film-with-sound}
+
+-- The film.
+
+-- a film before what is optional in its data set
+abbrev pub baseFilm : Core → List ℕ → Listing → Film
+baseFilm k sent l = record {
+  name = nameFrom (k .numbers) sent;
+  layout = layoutIn l;
+  orientation = 0;
+  magnification = 2;
+  first = serial (k .numbers .serial + ownSerials sent);
+  boxes = filledTo mostBoxes noBox (map newBox (from 1 (boxCount (layoutIn l))));
+}
+
+abbrev pub after : Core → List ℕ → Listing → Numbers
+after k sent l = serialsUsed (filmSerials sent l) (k .numbers)
+
+after-later : (k : Core) (sent : List ℕ) (l : Listing) → Later (k .numbers) (after k sent l)
+unfolding rootOf
+after-later k sent l = record { root = refl; serials = omega arith; pictures = omega arith }
+
+after-sound : (k : Core) (sent : List ℕ) (l : Listing) → numbersSound (k .numbers) ≡ true → k .numbers .serial + filmSerials sent l ≤ noneLeft → numbersSound (after k sent l) ≡ true
+unfolding numbersSound rootOf
+after-sound k sent l e g =
+    let h = all-holds _ e in
+    let s = leb-true 1 (k .numbers .serial) (both-true (leb 1 (k .numbers .serial)) (leb (k .numbers .serial) noneLeft) (h .1 .1 .1 .0) .0) in
+    holds-all _ (h .0, (h .1 .0, (h .1 .1 .0, (between-holds 1 noneLeft (k .numbers .serial + filmSerials sent l) (omega arith) g, h .1 .1 .1 .1))))
+
+layout-in-sound : (l : Listing) → mandatory blank (λ v. not (eqb (length (countsIn v)) 0)) l (look l 0x2010_0010) ≡ fine → layoutSound (layoutIn l) ≡ true
+unfolding layoutIn
+layout-in-sound l e =
+    let v = valueOf l 0x2010_0010 in
+    let a = not-true (eqb (length (countsIn v)) 0) (mandatory-fine blank (λ v. not (eqb (length (countsIn v)) 0)) l (look l 0x2010_0010) e) in
+    layout-sound (countsIn v) (counts-grid v (eqb-false (length (countsIn v)) 0 a))
+
+blank-box : boxBlank noBox ≡ true
+unfolding every
+blank-box = refl
+
+base-sound : (k : Core) (sent : List ℕ) (l : Listing) → Sendable k sent → Counted (k .numbers) → layoutSound (layoutIn l) ≡ true → filmSound (after k sent l) (baseFilm k sent l) ≡ true
+unfolding filmSound boxesOf
+base-sound k sent l s c y =
+    let n = k .numbers in
+    let m = after k sent l in
+    let count = boxCount (layoutIn l) in
+    let xs = map newBox (from 1 count) in
+    let zs = replicate (mostBoxes - length xs) noBox in
+    let size : length xs ≡ count = length-map (from 1 count) newBox ∙ from-length 1 count in
+    let c1 = c .serials in
+    holds-all _ (
+      name-from-sound k sent m s (after-later k sent l .root) (c .serials) (omega arith),
+      (
+        y,
+        (
+          refl,
+          (
+            refl,
+            (
+              le-leb 1 (n .serial + ownSerials sent) (omega arith),
+              (
+                le-leb (n .serial + ownSerials sent + count) (m .serial) (omega arith),
+                (
+                  rw (take-at xs zs count size) (new-boxes m count (c .pictures) 1 count (omega arith) (omega arith)),
+                  (
+                    rw (drop-at xs zs count size) (every-replicate boxBlank (mostBoxes - length xs) noBox blank-box),
+                    tt,
+                  ),
+                ),
+              ),
+            ),
+          ),
+        ),
+      ),
+    )
+
+pub new-film-sound : (k : Core) (sent : List ℕ) (l : Listing) → Sendable k sent → Counted (k .numbers) → layoutSound (layoutIn l) ≡ true → any (is wrong) (optionalFilm l) ≡ false → filmSound (after k sent l) (newFilm k sent l) ≡ true
+unfolding newFilm
+new-film-sound k sent l s c y w = film-with-sound (after k sent l) l (baseFilm k sent l) w (base-sound k sent l s c y)
+
+-- Its serials.
+
+serials-append : (xs ys : List Film) → serialsOf (xs ++ ys) ≡ serialsOf xs ++ serialsOf ys
+unfolding serialsOf
+serials-append [] ys = refl
+serials-append (x ∷ xs) ys = rw (serials-append xs ys)
+
+module _ (n : Numbers) (P : Serials → Bool) (low : (a : Serials) → a .from + a .count ≤ n .serial → P a ≡ true) where
+  film-serials : (f : Film) → filmSound n f ≡ true → (P (ownSerial (f .name)) ≡ true) × (P (record { from = f .first .0; count = boxCount (f .layout) }) ≡ true)
+  unfolding filmSound
+  film-serials f e =
+      let h = all-holds _ e in (
+        low (ownSerial (f .name)) (own-below n (f .name) (h .0)),
+        low (record { from = f .first .0; count = boxCount (f .layout) }) (leb-true (f .first .0 + boxCount (f .layout)) (n .serial) (h .1 .1 .1 .1 .1 .0)),
+      )
+
+  -- the serials of films are used up
+  serials-low : (films : List Film) → every (filmSound n) films ≡ true → every P (serialsOf films) ≡ true
+  unfolding every serialsOf
+  serials-low [] e = refl
+  serials-low (f ∷ films) e =
+      let h = both-true (filmSound n f) (every (filmSound n) films) e in
+      let p = film-serials f (h .0) in
+      both-holds (P (ownSerial (f .name))) (both (P (record { from = f .first .0; count = boxCount (f .layout) })) (every P (serialsOf films))) (p .0)
+      (both-holds (P (record { from = f .first .0; count = boxCount (f .layout) })) (every P (serialsOf films)) (p .1) (serials-low films (h .1)))
+
+one-most : (b : Bool) → pick b 0 1 ≤ 1
+one-most true = omega arith
+one-most false = omega arith
+
+own-new : (n : Numbers) (sent : List ℕ) → ownSerial (nameFrom n sent) .from + ownSerial (nameFrom n sent) .count ≤ n .serial + ownSerials sent
+own-new n sent = new (eqb (length sent) 0)
+  where
+    new : (t : Bool) → ownSerial (pick t (madeName (n .serial)) (sentName sent)) .from + ownSerial (pick t (madeName (n .serial)) (sentName sent)) .count ≤ n .serial + pick t 1 0
+    new true = let o = one-most (eqb (n .serial) 0) in omega arith
+    new false = omega arith
+
+own-apart : (n : Numbers) (sent : List ℕ) (a : Serials) → a .from + a .count ≤ n .serial → pick (overlap a (ownSerial (nameFrom n sent))) false true ≡ true
+own-apart n sent a h =
+    pick-cases (λ (name : Name). pick (overlap a (ownSerial name)) false true ≡ true) (eqb (length sent) 0) (madeName (n .serial)) (sentName sent)
+    (λ e. apart-later a (ownSerial (madeName (n .serial))) (n .serial) h (omega arith))
+    (λ e. apart-none a (ownSerial (sentName sent)) refl)
+
+-- the serials of its boxes, after its own
+abbrev boxSerials : Core → List ℕ → Listing → Serials
+boxSerials k sent l = record { from = k .numbers .serial + ownSerials sent; count = boxCount (layoutIn l) }
+
+module _ (k : Core) (sent : List ℕ) (l : Listing) where
+  used-apart : (a : Serials) → a .from + a .count ≤ k .numbers .serial → every (λ b. pick (overlap a b) false true) (ownSerial (nameFrom (k .numbers) sent) ∷ boxSerials k sent l ∷ []) ≡ true
+  unfolding every
+  used-apart a h =
+      both-holds (pick (overlap a (ownSerial (nameFrom (k .numbers) sent))) false true) (both (pick (overlap a (boxSerials k sent l)) false true) true)
+      (own-apart (k .numbers) sent a h)
+      (both-holds (pick (overlap a (boxSerials k sent l)) false true) true (apart-later a (boxSerials k sent l) (k .numbers .serial) h (omega arith)) refl)
+
+  new-apart : apart overlap (ownSerial (nameFrom (k .numbers) sent) ∷ boxSerials k sent l ∷ []) ≡ true
+  unfolding apart every
+  new-apart =
+      let own = ownSerial (nameFrom (k .numbers) sent) in
+      both-holds (every (λ b. pick (overlap own b) false true) (boxSerials k sent l ∷ [])) (apart overlap (boxSerials k sent l ∷ []))
+      (every-one (λ b. pick (overlap own b) false true) (boxSerials k sent l) (apart-later own (boxSerials k sent l) (k .numbers .serial + ownSerials sent) (own-new (k .numbers) sent) (omega arith)))
+      refl
+
+  serials-apart : (s : Session) (films : List Film) → nameSound (k .numbers) (s .name) ≡ true → every (filmSound (k .numbers)) films ≡ true → apart overlap (ownSerial (s .name) ∷ serialsOf films) ≡ true → apart overlap (ownSerial (s .name) ∷ serialsOf (films ++ (newFilm k sent l ∷ []))) ≡ true
+  unfolding newFilm filmWith serialsOf
+  serials-apart s films e f a =
+      let new = ownSerial (nameFrom (k .numbers) sent) ∷ boxSerials k sent l ∷ [] in
+      let P : Serials → Bool = λ a. every (λ b. pick (overlap a b) false true) new in
+      rw (serials-append films (newFilm k sent l ∷ []))
+      (apart-append overlap (ownSerial (s .name) ∷ serialsOf films) new a new-apart
+      (every-cons P (ownSerial (s .name)) (serialsOf films) (used-apart (ownSerial (s .name)) (own-below (k .numbers) (s .name) e)) (serials-low (k .numbers) P used-apart films f)))
+
+-- Its text.
+
+text-new : (n : Numbers) (sent : List ℕ) (name : Name) → nameSound n name ≡ true → ((length sent ≡ 0 → ⊥) → same sent (uidOf n name) ≡ false) → sameText (sentText name) (sentText (nameFrom n sent)) ≡ false
+text-new n sent name e f =
+    pick-cases (λ (new : Name). sameText (sentText name) (sentText new) ≡ false) (eqb (length sent) 0) (madeName (n .serial)) (sentName sent)
+    (λ t. text-none (sentText name))
+    (λ t. rw (take-append-seam sent (replicate (64 - length sent) 0)) (text-free n name sent e (f (eqb-false (length sent) 0 t))))
+
+not-holds : (b : Bool) → b ≡ false → pick b false true ≡ true
+not-holds b e = rw e
+
+module _ (n : Numbers) (sent : List ℕ) where
+  text-apart : (name : Name) → nameSound n name ≡ true → ((length sent ≡ 0 → ⊥) → same sent (uidOf n name) ≡ false) → every (λ b. pick (sameText (sentText name) b) false true) (sentText (nameFrom n sent) ∷ []) ≡ true
+  text-apart name e f =
+      every-one (λ b. pick (sameText (sentText name) b) false true) (sentText (nameFrom n sent))
+      (not-holds (sameText (sentText name) (sentText (nameFrom n sent))) (text-new n sent name e f))
+
+  texts-low : (films : List Film) → every (filmSound n) films ≡ true → ((length sent ≡ 0 → ⊥) → any (filmNamed n sent) films ≡ false) → every (λ a. every (λ b. pick (sameText a b) false true) (sentText (nameFrom n sent) ∷ [])) (map (λ (f : Film). sentText (f .name)) films) ≡ true
+  unfolding any
+  texts-low [] e f = every-nil _
+  texts-low (x ∷ films) e f =
+      let h = every-parts (filmSound n) x films e in
+      every-cons (λ a. every (λ b. pick (sameText a b) false true) (sentText (nameFrom n sent) ∷ [])) (sentText (x .name)) (map (λ (f : Film). sentText (f .name)) films)
+      (text-apart (x .name) (film-name-sound n x (h .0)) (λ z. either-false (filmNamed n sent x) (any (filmNamed n sent) films) (f z) .0))
+      (texts-low films (h .1) (λ z. either-false (filmNamed n sent x) (any (filmNamed n sent) films) (f z) .1))
+
+  texts-apart : (s : Session) (films : List Film) (new : Film) → new .name ≡ nameFrom n sent → nameSound n (s .name) ≡ true → every (filmSound n) films ≡ true
+      → ((length sent ≡ 0 → ⊥) → same sent (uidOf n (s .name)) ≡ false) → ((length sent ≡ 0 → ⊥) → any (filmNamed n sent) films ≡ false)
+      → apart sameText (sentText (s .name) ∷ map (λ (f : Film). sentText (f .name)) films) ≡ true
+      → apart sameText (sentText (s .name) ∷ map (λ (f : Film). sentText (f .name)) (films ++ (new ∷ []))) ≡ true
+  texts-apart s films new q e f g h a =
+      let t = sentText (nameFrom n sent) ∷ [] in
+      let P : List ℕ → Bool = λ a. every (λ b. pick (sameText a b) false true) t in
+      rw (map-append (λ (f : Film). sentText (f .name)) films (new ∷ []), q)
+      (apart-append sameText (sentText (s .name) ∷ map (λ (f : Film). sentText (f .name)) films) t a (apart-one sameText (sentText (nameFrom n sent)))
+      (every-cons P (sentText (s .name)) (map (λ (f : Film). sentText (f .name)) films) (text-apart (s .name) e g) (texts-low films f h)))
+
+-- A UID that names nobody.
+
+nobody-picked : (s f b : Bool) (p x y : ℕ) → isNobody (pick s theSession (pick f (theFilm p) (pick b (theBox x y) nobody))) ≡ true → (s ≡ false) × (f ≡ false)
+nobody-picked true f b p x y e = absurd (clash refl e)
+nobody-picked false true b p x y e = absurd (clash refl e)
+nobody-picked false false b p x y e = (refl, refl)
+
+nobody-named : (k : Core) (uid : List ℕ) → isNobody (named k uid) ≡ true → (both (isLive (k .session)) (same uid (uidOf (k .numbers) (k .session .name))) ≡ false) × (any (filmNamed (k .numbers) uid) (filmsOf (k .shelf)) ≡ false)
+unfolding named
+nobody-named k uid e = nobody-picked (both (isLive (k .session)) (same uid (uidOf (k .numbers) (k .session .name)))) (any (filmNamed (k .numbers) uid) (filmsOf (k .shelf))) (any (boxNamed (k .numbers) uid) (filmsOf (k .shelf))) _ _ _ e
+
+-- Creating.
+
+-- what the checks of a new film tell
+record Checked (k : Core) (sent : List ℕ) (l : Listing) : Type 0 where
+  live : isLive (k .session) ≡ true
+  layout : layoutSound (layoutIn l) ≡ true
+  optional : any (is wrong) (optionalFilm l) ≡ false
+  few : length (filmsOf (k .shelf)) ≡ 8 → ⊥
+  enough : k .numbers .serial + filmSerials sent l ≤ noneLeft
+
+checked : (k : Core) (sent : List ℕ) (l : Listing) → Kept (newFilmRules k sent l) → Checked k sent l
+unfolding filmCreateStandings
+checked k sent l h =
+    let format = mandatory blank (λ v. not (eqb (length (countsIn v)) 0)) l (look l 0x2010_0010) in
+    let refers = reference k l (look l 0x2010_0500) in
+    let all-fine : AllFine (format ∷ (refers ++ optionalFilm l)) = kept-fine (format ∷ (refers ++ optionalFilm l)) (h .0, (h .1 .0, (h .1 .1 .0, tt))) in
+    record {
+      live = reference-live k l (look l 0x2010_0500) (fine-front refers (optionalFilm l) (all-fine .1));
+      layout = layout-in-sound l (all-fine .0);
+      optional = any-behind (is wrong) (format ∷ refers) (optionalFilm l) (h .1 .1 .0);
+      few = eqb-false (length (filmsOf (k .shelf))) 8 (h .1 .1 .1 .0);
+      enough = ltb-false noneLeft (k .numbers .serial + filmSerials sent l) (h .1 .1 .1 .1 .0);
+    }
+
+new-name : (k : Core) (sent : List ℕ) (l : Listing) → newFilm k sent l .name ≡ nameFrom (k .numbers) sent
+unfolding newFilm filmWith
+new-name k sent l = refl
+
+live-name : (n : Numbers) (s : Session) → pick (isLive s) (sessionSound n s) (sessionBlank s) ≡ true → isLive s ≡ true → nameSound n (s .name) ≡ true
+live-name n s e l = all-holds _ (rw l at e) .0
+
+new-uids : (k : Core) (sent : List ℕ) (l : Listing) → coreSound k ≡ true → Sendable k sent → isLive (k .session) ≡ true → uidsApart (k .session) (filmsOf (k .shelf) ++ (newFilm k sent l ∷ [])) ≡ true
+unfolding uidsApart
+new-uids k sent l e s live =
+    let r = rules-of k e in
+    let n = k .numbers in
+    let films = filmsOf (k .shelf) in
+    let each = films-of n (k .session) (k .shelf) (r .shelf) .each in
+    let name = live-name n (k .session) (r .session) live in
+    let b = both-true (apart overlap (ownSerial (k .session .name) ∷ serialsOf films)) (apart sameText (sentText (k .session .name) ∷ map (λ (f : Film). sentText (f .name)) films)) (r .uids) in
+    both-holds (apart overlap (ownSerial (k .session .name) ∷ serialsOf (films ++ (newFilm k sent l ∷ [])))) (apart sameText (sentText (k .session .name) ∷ map (λ (f : Film). sentText (f .name)) (films ++ (newFilm k sent l ∷ []))))
+    (serials-apart k sent l (k .session) films name each (b .0))
+    (texts-apart n sent (k .session) films (newFilm k sent l) (new-name k sent l) name each
+    (λ z. both-second (isLive (k .session)) (same sent (uidOf n (k .session .name))) (nobody-named k sent (s .free z) .0) live)
+    (λ z. nobody-named k sent (s .free z) .1)
+    (b .1))
+
+-- a UID that check 6 passes, and attributes and numbers that checks 8 and 9 pass
+pub film-created-sound : (k : Core) (sent : List ℕ) (l : Listing) → coreSound k ≡ true → Sendable k sent → Kept (newFilmRules k sent l) → coreSound (filmCreated k sent l) ≡ true
+unfolding filmCreated
+film-created-sound k sent l e s h =
+    let c = checked k sent l h in
+    let r = rules-of k e in
+    let n = k .numbers in
+    let m = after k sent l in
+    let later = after-later k sent l in
+    let films = filmsOf (k .shelf) in
+    let new = newFilm k sent l in
+    let old = films-of n (k .session) (k .shelf) (r .shelf) in
+    let room : filmRoom (k .session) ≡ 8 = rw (c .live) in
+    let few = old .few in
+    let other = c .few in
+    let all-new = films ++ (new ∷ []) in
+    of-rules _
+    (record {
+      numbers = after-sound k sent l (r .numbers) (c .enough);
+      flagged = r .flagged;
+      session = session-later n m later (k .session) (r .session);
+      shelf = shelf-of m (k .session) all-new (record {
+        few = rw (length-append films (new ∷ []), room) (omega arith);
+        each = every-append (filmSound m) films (new ∷ []) (every-weak (filmSound n) (filmSound m) (film-later n m later) films (old .each)) (every-one (filmSound m) new (new-film-sound k sent l s (counted n (r .numbers)) (c .layout) (c .optional)));
+      });
+      queue = queue-later n m later (k .queue) (r .queue);
+      uids = rw (films-shelved all-new) (new-uids k sent l e s (c .live));
+      opening = r .opening;
+    })
+
+-- the same, for the UID that a command sends
+pub film-create-sound : (k : Core) (c : List ℕ) (sent : Part) (l : Listing) → coreSound k ≡ true → Kept (createRules k c sent) → Kept (newFilmRules k (sentUid c sent) l) → coreSound (filmCreated k (sentUid c sent) l) ≡ true
+film-create-sound k c sent l e h g = film-created-sound k (sentUid c sent) l e (sendable k c sent h) g

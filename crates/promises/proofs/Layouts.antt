@@ -1,0 +1,101 @@
+-- The layout of a film that is created, and its boxes.
+-- Assumes nothing.
+use Prim.Native.Nat.{ℕ, zero, suc, _+_, _-_, _≤_}
+use mathlib.Core.Path.{_≡_, refl, ap}
+use mathlib.Core.Bool.{Bool, true, false}
+use mathlib.Core.List.{List, [], _∷_, map}
+use native.Mathlib.Omega.{arith}
+use lib.Dec.{eqb, leb, ltb}
+use lib.ListN.{length, getD, take, replicate, length-replicate}
+use lib.Seq.{take-append-seam, drop-append-seam}
+use borrow.Author.Tests.{leb-true, le-leb, lt-ltb, eq-eqb}
+use Rattle.choice.specs.Pick.{pick}
+use Rattle.choice.proofs.Picks.{both-true, both-holds}
+use Rattle.octets.specs.Octets.{same}
+use Rattle.rules.specs.declared.Numbers.{Numbers}
+use Rattle.rules.specs.Text.{chars}
+use Rattle.rules.specs.Lists.{every, from}
+use Rattle.rules.specs.Values.{withoutTrailing, oneToSix, standard, countsIn}
+use Rattle.rules.specs.Attributes.{layoutFrom}
+use Rattle.rules.specs.Effects.{newBox}
+use Rattle.rules.specs.Sound.{between, layoutSound, boxSound}
+use Rattle.promises.proofs.ListLaws.{holds-all, every-replicate}
+
+-- so many lines of so many boxes each
+pub record Grid (counts : List ℕ) : Type 0 where
+  pub more : ℕ
+  pub columns : ℕ
+  pub few : more ≤ 5
+  pub some : 1 ≤ columns
+  pub most : columns ≤ 6
+  pub lines : counts ≡ replicate (suc more) columns
+
+digit-sound : (c : ℕ) → oneToSix c ≡ true → (1 ≤ c - 48) × (c - 48 ≤ 6)
+digit-sound c e =
+    let b = both-true (leb 49 c) (leb c 54) e in
+    let x = leb-true 49 c (b .0) in
+    let y = leb-true c 54 (b .1) in
+    (omega arith, omega arith)
+
+grid-of : (r c : ℕ) → (1 ≤ r) × (r ≤ 6) → (1 ≤ c) × (c ≤ 6) → Grid (replicate r c)
+grid-of zero c h g = absurd (omega (arith, h .0))
+grid-of (suc r) c h g = record { more = r; columns = c; few = omega (arith, h .1); some = g .0; most = g .1; lines = refl }
+
+standard-grid : (t : List ℕ) → standard t ≡ true → Grid (replicate (getD t 11 0 - 48) (getD t 9 0 - 48))
+unfolding standard
+standard-grid t e =
+    let a = both-true (same (take 9 t) (chars "STANDARD\\")) _ e in
+    let b = both-true (eqb (length t) 12) _ (a .1) in
+    let c = both-true (oneToSix (getD t 9 0)) _ (b .1) in
+    let d = both-true (eqb (getD t 10 0) 0x2C) (oneToSix (getD t 11 0)) (c .1) in
+    grid-of (getD t 11 0 - 48) (getD t 9 0 - 48) (digit-sound (getD t 11 0) (d .1)) (digit-sound (getD t 9 0) (c .0))
+
+counts-picked : (b : Bool) (counts : List ℕ) → (b ≡ true → Grid counts) → (length (pick b counts []) ≡ 0 → ⊥) → Grid (pick b counts [])
+counts-picked true counts f h = f refl
+counts-picked false counts f h = absurd (h refl)
+
+-- a format that gives lines gives a grid
+pub counts-grid : (v : List ℕ) → (length (countsIn v) ≡ 0 → ⊥) → Grid (countsIn v)
+unfolding countsIn
+counts-grid v h = counts-picked (standard (withoutTrailing v)) _ (standard-grid (withoutTrailing v)) h
+
+pub between-holds : (a b n : ℕ) → a ≤ n → n ≤ b → between a b n ≡ true
+between-holds a b n h g = both-holds (leb a n) (leb n b) (le-leb a n h) (le-leb n b g)
+
+lines-sound : (r c : ℕ) → r ≤ 5 → 1 ≤ c → c ≤ 6 → layoutSound (layoutFrom (replicate (suc r) c)) ≡ true
+unfolding layoutSound
+lines-sound r c h g m =
+    let xs = replicate (suc r) c in
+    let z : List ℕ = replicate (6 - length xs) 0 in
+    let n : length xs ≡ suc r = length-replicate (suc r) c in
+    holds-all _ (
+      between-holds 1 6 (length xs) (omega arith) (omega arith),
+      (
+        between-holds 1 6 c g m,
+        (
+          rw (take-append-seam xs z) (every-replicate (eqb c) (suc r) c (eq-eqb c c refl)),
+          (
+            rw (drop-append-seam xs z) (every-replicate (λ (b : ℕ). eqb b 0) (6 - length xs) 0 refl),
+            tt,
+          ),
+        ),
+      ),
+    )
+
+pub layout-sound : (counts : List ℕ) → Grid counts → layoutSound (layoutFrom counts) ≡ true
+layout-sound counts g = rw (g .lines) (lines-sound (g .more) (g .columns) (g .few) (g .some) (g .most))
+
+-- The boxes.
+
+pub from-length : (a n : ℕ) → length (from a n) ≡ n
+unfolding from
+from-length a zero = refl
+from-length a (suc n) = ap suc (from-length (a + 1) n)
+
+pub new-boxes : (m : Numbers) (boxes : ℕ) → 1 ≤ m .picture → (a n : ℕ) → 1 ≤ a → a + n ≤ boxes + 1 → every (boxSound boxes m) (map newBox (from a n)) ≡ true
+unfolding every from
+new-boxes m boxes p a zero h g = refl
+new-boxes m boxes p a (suc n) h g =
+    both-holds (boxSound boxes m (newBox a)) (every (boxSound boxes m) (map newBox (from (a + 1) n)))
+    (holds-all (between 1 boxes a ∷ leb 0 1 ∷ ltb 0 (m .picture) ∷ []) (between-holds 1 boxes a h (omega arith), (refl, (lt-ltb 0 (m .picture) (omega arith), tt))))
+    (new-boxes m boxes p (a + 1) n (omega arith) (omega arith))

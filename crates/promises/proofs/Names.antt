@@ -1,0 +1,134 @@
+-- Names that are new: they keep their rules, and differ from those held.
+-- Assumes nothing.
+use Prim.Native.Nat.{ℕ, _+_, _-_, _<_, _≤_}
+use mathlib.Core.Path.{_≡_, refl}
+use mathlib.Core.Bool.{Bool, true, false}
+use mathlib.Core.List.{List, [], _∷_}
+use native.Mathlib.Omega.{arith}
+use lib.Dec.{eqb, leb, ltb}
+use lib.ListN.{length, take, replicate}
+use lib.Seq.{take-append-seam, drop-append-seam}
+use borrow.Author.Tests.{ltb-true, lt-ltb, le-ltb, leb-true, eqb-true, eqb-false, ne-eqb}
+use Rattle.choice.specs.Pick.{pick, both, either, not}
+use Rattle.choice.proofs.Picks.{Kept, pick-cases, both-true, both-second, either-false, not-false, clash}
+use Rattle.octets.specs.Octets.{same}
+use Rattle.octets.proofs.Same.{same-equal, same-self}
+use Rattle.uids.specs.Uids.{components, isUid, beginsWith, made}
+use Rattle.headers.specs.declared.Part.{Part}
+use Rattle.rules.specs.declared.Name.{Name}
+use Rattle.rules.specs.declared.Numbers.{Numbers}
+use Rattle.rules.specs.declared.Core.{Core}
+use Rattle.rules.specs.Records.{madeName, sentName, rootOf, uidOf, named}
+use Rattle.rules.specs.Commands.{uidAt}
+use Rattle.rules.specs.Effects.{ownSerials, nameFrom}
+use Rattle.rules.specs.Checks.{isNobody, isSent, createRules, sentUid}
+use Rattle.rules.specs.Sound.{nameSound, nameBlank, sentSound, madeSound, Serials, overlap, ownSerial, sentText, sameText}
+use Rattle.promises.proofs.ListLaws.{all-holds, holds-all, every-replicate}
+use Rattle.promises.proofs.Layouts.{between-holds}
+
+-- What check 6 tells of a UID that is sent; none is sent where it is empty.
+
+pub record Sendable (k : Core) (sent : List ℕ) : Type 0 where
+  pub valid : (length sent ≡ 0 → ⊥) → isUid sent ≡ true
+  pub foreign : (length sent ≡ 0 → ⊥) → beginsWith (rootOf (k .numbers)) sent ≡ false
+  pub free : (length sent ≡ 0 → ⊥) → isNobody (named k sent) ≡ true
+
+pub sendable : (k : Core) (c : List ℕ) (sent : Part) → Kept (createRules k c sent) → Sendable k (sentUid c sent)
+unfolding createRules
+sendable k c sent h =
+    pick-cases (Sendable k) (isSent sent) (uidAt c sent) []
+    (λ e.
+    let u = uidAt c sent in
+    let a = either-false (not (isUid u)) (beginsWith (rootOf (k .numbers)) u) (both-second (isSent sent) (either (not (isUid u)) (beginsWith (rootOf (k .numbers)) u)) (h .0) e) in
+    let b = both-second (isSent sent) (not (isNobody (named k u))) (h .1 .0) e in
+    record { valid = λ x. not-false (isUid u) (a .0); foreign = λ x. a .1; free = λ x. not-false (isNobody (named k u)) b })
+    (λ e. record { valid = λ x. absurd (x refl); foreign = λ x. absurd (x refl); free = λ x. absurd (x refl) })
+
+-- Names keep their rules.
+
+made-name-sound : (m : Numbers) (s : ℕ) → 1 ≤ s → s < m .serial → nameSound m (madeName s) ≡ true
+unfolding nameSound
+made-name-sound m s h g =
+    rw (ne-eqb s 0 (λ e. omega arith))
+    (holds-all _ (lt-ltb s (m .serial) g, (refl, (every-replicate (λ (b : ℕ). eqb b 0) 64 0 refl, tt))))
+
+sent-name-sound : (m : Numbers) (sent : List ℕ) → (length sent ≡ 0 → ⊥) → isUid sent ≡ true → beginsWith (rootOf m) sent ≡ false → nameSound m (sentName sent) ≡ true
+unfolding nameSound isUid
+sent-name-sound m sent n u b =
+    let z : List ℕ = replicate (64 - length sent) 0 in
+    let short = leb-true (length sent) 64 (both-true (leb (length sent) 64) (components [] sent) u .0) in
+    holds-all _ (
+      between-holds 1 64 (length sent) (omega arith) short,
+      (
+        rw (take-append-seam sent z) u,
+        (
+          rw (take-append-seam sent z, b),
+          (
+            rw (drop-append-seam sent z) (every-replicate (λ (b : ℕ). eqb b 0) (64 - length sent) 0 refl),
+            tt,
+          ),
+        ),
+      ),
+    )
+
+pub name-from-sound : (k : Core) (sent : List ℕ) (m : Numbers) → Sendable k sent → rootOf m ≡ rootOf (k .numbers) → 1 ≤ k .numbers .serial → k .numbers .serial + ownSerials sent ≤ m .serial → nameSound m (nameFrom (k .numbers) sent) ≡ true
+name-from-sound k sent m s r h g =
+    pick-cases (λ (name : Name). nameSound m name ≡ true) (eqb (length sent) 0) (madeName (k .numbers .serial)) (sentName sent)
+    (λ e. let own : ownSerials sent ≡ 1 = rw e in made-name-sound m (k .numbers .serial) h (omega arith))
+    (λ e. let n = eqb-false (length sent) 0 e in sent-name-sound m sent n (s .valid n) (rw r (s .foreign n)))
+
+-- Serials differ.
+
+-- what is used up is apart from what comes later
+pub apart-later : (a b : Serials) (n : ℕ) → a .from + a .count ≤ n → n ≤ b .from → pick (overlap a b) false true ≡ true
+apart-later a b n h g = second (ltb (a .from) (b .from + b .count)) (ltb (b .from) (a .from + a .count)) (le-ltb (b .from) (a .from + a .count) (omega arith))
+  where
+    second : (x y : Bool) → y ≡ false → pick (both x y) false true ≡ true
+    second true y e = rw e
+    second false y e = refl
+
+pub apart-none : (a b : Serials) → b .from + b .count ≡ 0 → pick (overlap a b) false true ≡ true
+apart-none a b e = rw (le-ltb (a .from) (b .from + b .count) (omega arith))
+
+-- the serial of a name is used up
+pub own-below : (n : Numbers) (name : Name) → nameSound n name ≡ true → ownSerial name .from + ownSerial name .count ≤ n .serial
+unfolding nameSound
+own-below n name e = below (eqb (name .made .0) 0) refl e
+  where
+    below : (t : Bool) → eqb (name .made .0) 0 ≡ t → pick t (sentSound n name) (madeSound n name) ≡ true → name .made .0 + pick t 0 1 ≤ n .serial
+    below true t e = let z = eqb-true (name .made .0) 0 t in omega arith
+    below false t e = let l = ltb-true (name .made .0) (n .serial) (all-holds _ e .0) in omega arith
+
+pub blank-below : (n : ℕ) (name : Name) → nameBlank name ≡ true → ownSerial name .from + ownSerial name .count ≤ n
+blank-below n name e =
+    let z = all-holds _ e .0 in
+    let o = eqb-true (name .made .0) 0 z in
+    rw (z, o) (omega arith)
+
+-- Texts differ.
+
+both-false : (x y : Bool) → y ≡ false → both x y ≡ false
+both-false true y e = e
+both-false false y e = refl
+
+-- an empty text is like none
+pub text-none : (a : List ℕ) → sameText a [] ≡ false
+unfolding same
+text-none [] = refl
+text-none (x ∷ a) = both-false (not (eqb (length (x ∷ a)) 0)) (same (x ∷ a) []) refl
+
+same-other : (a b : List ℕ) → same a b ≡ false → same b a ≡ false
+same-other a b e = other (same b a) refl
+  where
+    other : (t : Bool) → same b a ≡ t → t ≡ false
+    other true f = absurd (clash e (rw (same-equal b a f) (same-self a)))
+    other false f = refl
+
+-- a UID that is not a name's is not its text
+pub text-free : (n : Numbers) (name : Name) (sent : List ℕ) → nameSound n name ≡ true → same sent (uidOf n name) ≡ false → sameText (sentText name) sent ≡ false
+unfolding nameSound uidOf
+text-free n name sent e f = free (eqb (name .made .0) 0) e f
+  where
+    free : (t : Bool) → pick t (sentSound n name) (madeSound n name) ≡ true → same sent (pick t (take (name .used) (name .text)) (made (rootOf n) (name .made .0))) ≡ false → sameText (sentText name) sent ≡ false
+    free true e f = both-false (not (eqb (length (sentText name)) 0)) (same (sentText name) sent) (same-other sent (sentText name) f)
+    free false e f = rw (eqb-true (name .used) 0 (all-holds _ e .1 .0))

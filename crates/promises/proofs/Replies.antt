@@ -1,0 +1,264 @@
+-- Whatever is replied to a request is read back from its bytes as it was meant, and fits its buffer.
+-- Assumes nothing but that the root has at most 40 characters.
+use Prim.Native.Nat.{ℕ, _≤_}
+use mathlib.Core.Path.{_≡_, refl}
+use mathlib.Core.Bool.{true}
+use mathlib.Core.List.{List, [], _∷_, _++_}
+use mathlib.Core.Option.{Option, none, some}
+use native.Mathlib.Omega.{arith}
+use lib.Dec.{eqb, leb}
+use lib.ListN.{length, length-take}
+use borrow.Author.Tests.{leb-true}
+use Rattle.choice.specs.Pick.{both, not}
+use Rattle.choice.specs.Rules.{Rule, _⇒_}
+use Rattle.choice.proofs.Picks.{pick-cases, Kept, first-cases, not-false, both-true, both-second, either-false}
+use Rattle.uids.specs.Uids.{components, isUid, made}
+use Rattle.uids.proofs.Made.{made-short}
+use Rattle.headers.specs.declared.Part.{Part}
+use Rattle.strike.specs.Service.{DataSet, Result, fails, does}
+use Rattle.rules.specs.declared.Core.{Core}
+use Rattle.rules.specs.declared.Operation.{Operation}
+use Rattle.rules.specs.declared.Operation.the-variants.{Echo, Create, Set, Act, Delete}
+use Rattle.rules.specs.declared.Request.{Request}
+use Rattle.rules.specs.declared.Command.{Command}
+use Rattle.rules.specs.declared.Command.the-variants.{Unreadable, Unknown, Known}
+use Rattle.rules.specs.Bounds.{commandRoom, dataRoom, rootLimit}
+use Rattle.rules.specs.Records.{Instance, nobody, theSession, theFilm, theBox, rootOf, uidOf, madeName, sentName, named, explicitVR, boxUids}
+use Rattle.rules.specs.Effects.{newFilm}
+use Rattle.rules.specs.Attributes.{Listing, listingOf}
+use Rattle.rules.specs.Commands.{inCommand, placed, uidAt, hasUid, hasTarget, hasNumber, field, requestIn, wellFormed, understood}
+use Rattle.rules.specs.Responses.{Note, noNote, Reply, reply}
+use Rattle.rules.specs.Checks.{Class, verification, sessions, films, boxes, unknownClass, classOf, classPart, isSent, createRules, generalRules, createPlan, setPlan, actionPlan, deletePlan, planOf, sentUid, newUid, dataOf, failedInstance, says, saysUnknown, failed, answered, decideRequest, decideCommand, decide}
+use Rattle.promises.proofs.Fitting.{Short, Brief, reply-fits}
+use Rattle.promises.proofs.ReadBack.{ResponseMeans, response-means}
+use Rattle.promises.proofs.FilmBack.{FilmMeans}
+use Rattle.promises.proofs.NewFilm.{new-film-fits, new-film-means}
+
+-- a UID has at most 64 characters
+uid-short : (u : List ℕ) → isUid u ≡ true → length u ≤ 64
+unfolding isUid
+uid-short u e = leb-true (length u) 64 (both-true (leb (length u) 64) (components [] u) e .0)
+
+-- Requests that are known name their class and their instance by UIDs.
+
+abbrev Sound : List ℕ → Operation → Type 0
+Sound c (Echo r) = isUid (uidAt c (r .class)) ≡ true
+Sound c (Create r) = isUid (uidAt c (r .class)) ≡ true
+Sound c (Set r) = (isUid (uidAt c (r .class)) ≡ true) × (isUid (uidAt c (r .instance)) ≡ true)
+Sound c (Act r) = (isUid (uidAt c (r .class)) ≡ true) × (isUid (uidAt c (r .instance)) ≡ true)
+Sound c (Delete r) = (isUid (uidAt c (r .class)) ≡ true) × (isUid (uidAt c (r .instance)) ≡ true)
+
+abbrev KnownSound : List ℕ → Command → Type 0
+KnownSound c Unreadable = Unit {0}
+KnownSound c (Unknown message field) = Unit {0}
+KnownSound c (Known r) = Sound c (r .operation)
+
+request-sound : (c : List ℕ) → KnownSound c (requestIn c)
+unfolding requestIn
+request-sound c =
+    pick-cases (KnownSound c) (eqb (field c) 0x0030) _ _
+    (λ _. pick-cases (KnownSound c) (hasUid c 0x0000_0002) _ _ (λ e. e) (λ _. tt))
+    (λ _. pick-cases (KnownSound c) (eqb (field c) 0x0140) _ _
+    (λ _. pick-cases (KnownSound c) (hasUid c 0x0000_0002) _ _ (λ e. e) (λ _. tt))
+    (λ _. pick-cases (KnownSound c) (eqb (field c) 0x0120) _ _
+    (λ _. pick-cases (KnownSound c) (hasTarget c) _ _ (λ e. both-true _ _ e) (λ _. tt))
+    (λ _. pick-cases (KnownSound c) (eqb (field c) 0x0130) _ _
+    (λ _. pick-cases (KnownSound c) (both (hasTarget c) (hasNumber c 0x0000_1008)) _ _ (λ e. both-true _ _ (both-true (hasTarget c) _ e .0)) (λ _. tt))
+    (λ _. pick-cases (KnownSound c) (eqb (field c) 0x0150) _ _
+    (λ _. pick-cases (KnownSound c) (hasTarget c) _ _ (λ e. both-true _ _ e) (λ _. tt))
+    (λ _. tt)))))
+
+understood-sound : (c : List ℕ) → KnownSound c (understood c)
+unfolding understood
+understood-sound c = pick-cases (KnownSound c) (wellFormed c) _ _ (λ _. request-sound c) (λ _. tt)
+
+class-uid : (c : List ℕ) (o : Operation) → Sound c o → isUid (uidAt c (classPart o)) ≡ true
+class-uid c (Echo r) s = s
+class-uid c (Create r) s = s
+class-uid c (Set r) s = s .0
+class-uid c (Act r) s = s .0
+class-uid c (Delete r) s = s .0
+
+failed-short : (c : List ℕ) (o : Operation) → Sound c o → Short (failedInstance c o)
+failed-short c (Echo r) s = tt
+failed-short c (Create r) s =
+    pick-cases Short (both (isSent (r .sent)) (isUid (uidAt c (r .sent)))) (some (uidAt c (r .sent))) none
+    (λ e. uid-short (uidAt c (r .sent)) (both-true (isSent (r .sent)) (isUid (uidAt c (r .sent))) e .1))
+    (λ _. tt)
+failed-short c (Set r) s = uid-short (uidAt c (r .instance)) (s .1)
+failed-short c (Act r) s = uid-short (uidAt c (r .instance)) (s .1)
+failed-short c (Delete r) s = uid-short (uidAt c (r .instance)) (s .1)
+
+-- The instance of a request that is done.
+
+new-short : (k : Core) (sent : List ℕ) → length (rootOf (k .numbers)) ≤ rootLimit → length sent ≤ 64 → length (newUid k sent) ≤ 64
+unfolding uidOf
+new-short k sent h s =
+    pick-cases (λ name. length (uidOf (k .numbers) name) ≤ 64) (eqb (length sent) 0) (madeName (k .numbers .serial)) (sentName sent)
+    (λ _. pick-cases (λ (u : List ℕ). length u ≤ 64) (eqb (k .numbers .serial) 0) _ (made (rootOf (k .numbers)) (k .numbers .serial))
+    (λ _. simp length-take (omega arith))
+    (λ _. omega (arith, made-short (rootOf (k .numbers)) (k .numbers .serial) h)))
+    (λ _. simp length-take (omega arith))
+
+sent-short : (k : Core) (c : List ℕ) (sent : Part) → Kept (createRules k c sent) → length (sentUid c sent) ≤ 64
+unfolding createRules
+sent-short k c sent kept =
+    pick-cases (λ (u : List ℕ). length u ≤ 64) (isSent sent) (uidAt c sent) []
+    (λ e. uid-short (uidAt c sent) (not-false (isUid (uidAt c sent)) (either-false (not (isUid (uidAt c sent))) _ (both-second (isSent sent) _ (kept .0) e) .0)))
+    (λ _. omega arith)
+
+create-short : (k : Core) (class : Class) (sent : List ℕ) (l : Listing) → length (newUid k sent) ≤ 64 → Short (createPlan k class sent l .done .instance)
+unfolding createPlan
+create-short k verification sent l h = tt
+create-short k sessions sent l h = h
+create-short k films sent l h = h
+create-short k boxes sent l h = tt
+create-short k unknownClass sent l h = tt
+
+set-short : (k : Core) (i : Instance) (uid : List ℕ) (l : Listing) → length uid ≤ 64 → Short (setPlan k i uid l .done .instance)
+unfolding setPlan
+set-short k nobody uid l h = tt
+set-short k theSession uid l h = h
+set-short k (theFilm i) uid l h = h
+set-short k (theBox i j) uid l h = h
+
+action-short : (k : Core) (i : Instance) (uid : List ℕ) → length uid ≤ 64 → Short (actionPlan k i uid .done .instance)
+unfolding actionPlan
+action-short k nobody uid h = tt
+action-short k theSession uid h = h
+action-short k (theFilm i) uid h = h
+action-short k (theBox i j) uid h = tt
+
+delete-short : (k : Core) (i : Instance) (uid : List ℕ) → length uid ≤ 64 → Short (deletePlan k i uid .done .instance)
+unfolding deletePlan
+delete-short k nobody uid h = tt
+delete-short k theSession uid h = h
+delete-short k (theFilm i) uid h = h
+delete-short k (theBox i j) uid h = tt
+
+kept-first : (a b : List Rule) → Kept (a ++ b) → Kept a
+kept-first [] b k = tt
+kept-first ((broken ⇒ n) ∷ a) b k = (k .0, kept-first a b (k .1))
+
+kept-second : (a b : List Rule) → Kept (a ++ b) → Kept b
+kept-second [] b k = k
+kept-second ((broken ⇒ n) ∷ a) b k = kept-second a b (k .1)
+
+done-short : (k : Core) (c : List ℕ) (d : DataSet) (o : Operation) → length (rootOf (k .numbers)) ≤ rootLimit → Sound c o → Kept (planOf k c d o .rules) → Short (planOf k c d o .done .instance)
+unfolding planOf
+done-short k c d (Echo r) h s kept = tt
+done-short k c d (Create r) h s kept =
+    create-short k (classOf (uidAt c (r .class))) (sentUid c (r .sent)) (listingOf (dataOf d) (explicitVR k))
+    (new-short k (sentUid c (r .sent)) h (sent-short k c (r .sent) (kept-first (createRules k c (r .sent)) _ kept)))
+done-short k c d (Set r) h s kept =
+    set-short k (named k (uidAt c (r .instance))) (uidAt c (r .instance)) (listingOf (dataOf d) (explicitVR k)) (uid-short (uidAt c (r .instance)) (s .1))
+done-short k c d (Act r) h s kept = action-short k (named k (uidAt c (r .instance))) (uidAt c (r .instance)) (uid-short (uidAt c (r .instance)) (s .1))
+done-short k c d (Delete r) h s kept = delete-short k (named k (uidAt c (r .instance))) (uidAt c (r .instance)) (uid-short (uidAt c (r .instance)) (s .1))
+
+-- The data set of a request that is done: none, or that of a new film, which is read back and fits its buffer.
+
+pub data Carries (k : Core) : List ℕ → Type 0 where
+  noData : Carries k []
+  boxData : {b : List ℕ} → (sent : List ℕ) (l : Listing) → FilmMeans b (explicitVR k) (boxUids (k .numbers) (newFilm k sent l)) → length b ≤ dataRoom → Carries k b
+
+pub carries-fits : {k : Core} {b : List ℕ} → Carries k b → length b ≤ dataRoom
+carries-fits noData = omega arith
+carries-fits (boxData sent l means fits) = fits
+
+create-carries : (k : Core) (class : Class) (sent : List ℕ) (l : Listing) → length (rootOf (k .numbers)) ≤ rootLimit → Carries k (createPlan k class sent l .done .dataSet)
+unfolding createPlan
+create-carries k verification sent l h = noData
+create-carries k sessions sent l h = noData
+create-carries k films sent l h = boxData sent l (new-film-means k sent l h (explicitVR k)) (new-film-fits k sent l h (explicitVR k))
+create-carries k boxes sent l h = noData
+create-carries k unknownClass sent l h = noData
+
+set-carries : (k : Core) (i : Instance) (uid : List ℕ) (l : Listing) → Carries k (setPlan k i uid l .done .dataSet)
+unfolding setPlan
+set-carries k nobody uid l = noData
+set-carries k theSession uid l = noData
+set-carries k (theFilm i) uid l = noData
+set-carries k (theBox i j) uid l = noData
+
+action-carries : (k : Core) (i : Instance) (uid : List ℕ) → Carries k (actionPlan k i uid .done .dataSet)
+unfolding actionPlan
+action-carries k nobody uid = noData
+action-carries k theSession uid = noData
+action-carries k (theFilm i) uid = noData
+action-carries k (theBox i j) uid = noData
+
+delete-carries : (k : Core) (i : Instance) (uid : List ℕ) → Carries k (deletePlan k i uid .done .dataSet)
+unfolding deletePlan
+delete-carries k nobody uid = noData
+delete-carries k theSession uid = noData
+delete-carries k (theFilm i) uid = noData
+delete-carries k (theBox i j) uid = noData
+
+done-carries : (k : Core) (c : List ℕ) (d : DataSet) (o : Operation) → length (rootOf (k .numbers)) ≤ rootLimit → Carries k (planOf k c d o .done .dataSet)
+unfolding planOf
+done-carries k c d (Echo r) h = noData
+done-carries k c d (Create r) h = create-carries k (classOf (uidAt c (r .class))) (sentUid c (r .sent)) (listingOf (dataOf d) (explicitVR k)) h
+done-carries k c d (Set r) h = set-carries k (named k (uidAt c (r .instance))) (uidAt c (r .instance)) (listingOf (dataOf d) (explicitVR k))
+done-carries k c d (Act r) h = action-carries k (named k (uidAt c (r .instance))) (uidAt c (r .instance))
+done-carries k c d (Delete r) h = delete-carries k (named k (uidAt c (r .instance))) (uidAt c (r .instance))
+
+-- Replies.
+
+-- a reply to a request says its class, field, message number and action type, and an instance or none; it fits, and so does its data set
+pub record Answers (k : Core) (c : List ℕ) (r : Request) (instance : Option (List ℕ)) (p : Reply) : Type 0 where
+  pub means : ResponseMeans (p .command) (says c r instance) (p .status) (p .dataSet)
+  -- the class that is read back is the one that was read
+  pub class : uidAt (p .command) (placed (inCommand (p .command) 0x0000_0002)) ≡ uidAt c (classPart (r .operation))
+  pub fits : length (p .command) ≤ commandRoom
+  pub carries : Carries k (p .dataSet)
+
+-- the instance is that of a failure, or that of what was done
+abbrev pub Answered : Core → List ℕ → DataSet → Request → Result Core Reply → Type 0
+Answered k c d r (fails p) = Answers k c r (failedInstance c (r .operation)) p
+Answered k c d r (does after p) = Answers k c r (planOf k c d (r .operation) .done .instance) p
+
+answers : (k : Core) (c : List ℕ) (r : Request) (instance : Option (List ℕ)) (status : ℕ) (b : List ℕ) (note : Note) → Sound c (r .operation) → Short instance → Carries k b → Answers k c r instance (reply (says c r instance) status b note)
+unfolding reply
+answers k c r instance status b note s h e =
+    let brief : Brief (says c r instance) = record { class = uid-short (uidAt c (classPart (r .operation))) (class-uid c (r .operation) s); instance = h } in
+    let m = response-means (says c r instance) status b brief note in
+    record { means = m; class = m .class .is (class-uid c (r .operation) s); fits = reply-fits (says c r instance) status b brief note; carries = e }
+
+request-answered : (k : Core) (c : List ℕ) (d : DataSet) (r : Request) → length (rootOf (k .numbers)) ≤ rootLimit → Sound c (r .operation) → Answered k c d r (decideRequest k c d r)
+unfolding decideRequest
+request-answered k c d r h s =
+    first-cases (Answered k c d r) (failed c r) (generalRules k c d (r .operation) ++ planOf k c d (r .operation) .rules) (answered c r (planOf k c d (r .operation) .done))
+    (λ status. answers k c r _ status _ _ s (failed-short c (r .operation) s) noData)
+    (λ kept. answers k c r _ _ _ _ s (done-short k c d (r .operation) h s (kept-second (generalRules k c d (r .operation)) (planOf k c d (r .operation) .rules) kept)) (done-carries k c d (r .operation) h))
+
+-- A command that is not known is answered with its field and message number alone, and 0211H.
+pub record AnswersUnknown (message field : ℕ) (p : Reply) : Type 0 where
+  pub means : ResponseMeans (p .command) (saysUnknown message field) 0x0211 []
+  pub fits : length (p .command) ≤ commandRoom
+  pub status-is : p .status ≡ 0x0211
+  pub no-data : p .dataSet ≡ []
+
+abbrev pub AnsweredUnknown : ℕ → ℕ → Result Core Reply → Type 0
+AnsweredUnknown message field (fails p) = AnswersUnknown message field p
+AnsweredUnknown message field (does k p) = ⊥
+
+abbrev pub AnsweredCommand : Core → List ℕ → DataSet → Command → Result Core Reply → Type 0
+AnsweredCommand k c d Unreadable = AnsweredUnknown 0 0
+AnsweredCommand k c d (Unknown message field) = AnsweredUnknown message field
+AnsweredCommand k c d (Known r) = Answered k c d r
+
+answers-unknown : (message field : ℕ) → AnswersUnknown message field (reply (saysUnknown message field) 0x0211 [] noNote)
+unfolding reply
+answers-unknown message field =
+    let b : Brief (saysUnknown message field) = record { class = tt; instance = tt } in
+    record { means = response-means (saysUnknown message field) 0x0211 [] b noNote; fits = reply-fits (saysUnknown message field) 0x0211 [] b noNote; status-is = refl; no-data = refl }
+
+command-answered : (k : Core) (c : List ℕ) (d : DataSet) (command : Command) → length (rootOf (k .numbers)) ≤ rootLimit → KnownSound c command → AnsweredCommand k c d command (decideCommand k c d command)
+command-answered k c d Unreadable h s = answers-unknown 0 0
+command-answered k c d (Unknown message field) h s = answers-unknown message field
+command-answered k c d (Known r) h s = request-answered k c d r h s
+
+-- Whatever the book decides, what its reply says is read back from the reply's bytes.
+pub decide-answered : (k : Core) (c : List ℕ) (d : DataSet) → length (rootOf (k .numbers)) ≤ rootLimit → AnsweredCommand k c d (understood c) (decide k c d)
+unfolding decide
+decide-answered k c d h = command-answered k c d (understood c) h (understood-sound c)
