@@ -31,7 +31,6 @@ use Rattle.rules.specs.declared.Numbers.{Numbers}
 use Rattle.rules.specs.declared.Opened.{Opened}
 use Rattle.rules.specs.declared.Core.{Core}
 use Rattle.rules.specs.declared.Input.{Input}
-use Rattle.rules.specs.declared.State.{State}
 use Rattle.rules.specs.Lists.{every, sum, filledTo}
 use Rattle.rules.specs.Values.{trimmed, labelByte, labelAllowed}
 use Rattle.rules.specs.Records.{rootOf, boxCount, boxesOf, filmsOf, entriesOf, isLive}
@@ -44,6 +43,7 @@ use Rattle.promises.proofs.Every.{all-true}
 use Rattle.promises.proofs.Facts.{between-true, core-facts, numbers-facts, shelf-facts, queue-facts}
 use Rattle.promises.proofs.Sessions.{LabelFacts, session-facts}
 use Rattle.promises.proofs.Laws.{box-facts, film-facts}
+use Rattle.promises.proofs.Keeping.{stateOf}
 use Rattle.promises.proofs.Sized.{Each, each-at, each-append, each-take, each-drop, each-join, each-filled, each-told, each-so, filled-length, NameSized, SessionSized, FilmSized, ShelfSized, EntrySized, QueueSized, NumbersSized, Sized}
 
 -- Arrays.
@@ -463,10 +463,6 @@ good-input (inData c d) f = held-fits 3 c (length d) (omega arith) (f .0) (f .1)
 good-input (skippingData c) f = held-fits 4 c 0 (omega arith) f (omega arith)
 
 -- The whole.
-
--- the records' fields, as a step leaves them
-abbrev pub stateOf : Records Core → State
-stateOf r = record { core = r .core; input = inputHeld (r .input) }
 
 pub good-state : (r : Records Core) → coreSound (r .core) ≡ true → Sized (r .core) → InputFits (r .input) → stateFormat .Good (stateOf r)
 unfolding stateFormat

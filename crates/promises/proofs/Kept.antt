@@ -20,7 +20,7 @@ use Rattle.promises.proofs.FilmCreated.{film-create-sound}
 use Rattle.promises.proofs.Printing.{session-printed-sound, film-printed-sound}
 use Rattle.promises.proofs.Keeping.{Keeps, stateOf, step-sound, run-sound, start-sound}
 
-all-keep : Keeps
+pub all-keep : Keeps
 all-keep = record {
   starts = started-sound;
   opens = opened-sound;

@@ -59,7 +59,7 @@ There k theSession = isLive (k .session) ≡ true
 There k (theFilm i) = i < length (filmsOf (k .shelf))
 There k (theBox i j) = (i < length (filmsOf (k .shelf))) × (j < boxCount (filmAt k i .layout))
 
-pub from-length : (n count : ℕ) → length (from n count) ≡ count
+from-length : (n count : ℕ) → length (from n count) ≡ count
 unfolding from
 from-length n zero = refl
 from-length n (suc count) = ap suc (from-length (n + 1) count)

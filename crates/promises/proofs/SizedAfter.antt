@@ -33,7 +33,7 @@ use Rattle.rules.specs.Calls.{Handed, startRules, started, opened, closed, take
 use Rattle.promises.proofs.Every.{none-at, take-filled}
 use Rattle.promises.proofs.Sessions.{or-kept}
 use Rattle.promises.proofs.NewSession.{sent-uid}
-use Rattle.promises.proofs.Named.{from-length}
+use Rattle.promises.proofs.Layouts.{from-length}
 use Rattle.promises.proofs.Sized.{Each, each-or, each-append, each-take, each-drop, each-without, each-set, each-replicate, each-filled, filled-length, NameSized, SessionSized, FilmSized, ShelfSized, EntrySized, QueueSized, NumbersSized, Sized}
 use Rattle.promises.proofs.Good.{sum-most}
 
