@@ -7,8 +7,15 @@ use Rattle.records.proofs.put_core.Tie as tie
 
 returns : tie.Need-returns
 unfolding coreFormat numbersFormat sessionFormat nameFormat serialFormat shelfFormat filmFormat layoutFormat boxFormat pictureFormat queueFormat entryFormat openedFormat core-steps
-returns c = let a = c .before .before .before .before .before .before .before .before .before .before .before .before .before .before .before .before .before .before .before .before .before .before .before .before .before .before .args in
-    rw (core-steps .same (a .x) (now (a .s)) (a .p) (search needs), c .before .before .put-opened .ensures, c .before .before .before .before .before .before .before .put-queue .ensures, c .before .before .before .before .before .before .before .before .before .before .before .before .put-shelf .ensures, c .before .before .before .before .before .before .before .before .before .before .before .before .before .before .before .before .before .put-session .ensures, c .before .before .before .before .before .before .before .before .before .before .before .before .before .before .before .before .before .before .before .before .before .before .put-numbers .ensures)
+returns c =
+    let opened = c .before .before in
+    let queue = opened .before .before .before .before .before in
+    let shelf = queue .before .before .before .before .before in
+    let session = shelf .before .before .before .before .before in
+    let numbers = session .before .before .before .before .before in
+    let start = numbers .before .before .before .before in
+    let a = start .args in
+    rw (core-steps .same (a .x) (now (a .s)) (a .p) (start .pre), opened .put-opened .ensures, queue .put-queue .ensures, shelf .put-shelf .ensures, session .put-session .ensures, numbers .put-numbers .ensures)
 
 pub put-core-spec : {M : Type 1} → statement M
 put-core-spec =

@@ -7,8 +7,14 @@ use Rattle.records.proofs.put_entry.Tie as tie
 
 returns : tie.Need-returns
 unfolding entryFormat pictureFormat nameFormat serialFormat entry-steps
-returns c = let a = c .before .before .before .before .before .before .before .before .before .before .before .before .before .before .before .before .before .before .before .before .args in
-    rw (entry-steps .same (a .x) (now (a .s)) (a .p) (search needs), c .before .before .put-name .ensures, c .before .before .before .before .before .before .before .put-byte .ensures, c .before .before .before .before .before .before .before .before .before .before .before .put-number .ensures, c .before .before .before .before .before .before .before .before .before .before .before .before .before .before .before .before .put-pictures .ensures)
+returns c =
+    let film = c .before .before in
+    let copies = film .before .before .before .before .before in
+    let ticket = copies .before .before .before .before in
+    let pictures = ticket .before .before .before .before .before in
+    let start = pictures .before .before .before .before in
+    let a = start .args in
+    rw (entry-steps .same (a .x) (now (a .s)) (a .p) (start .pre), film .put-name .ensures, copies .put-byte .ensures, ticket .put-number .ensures, pictures .put-pictures .ensures)
 
 pub put-entry-spec : {M : Type 1} → statement M
 put-entry-spec =

@@ -7,8 +7,16 @@ use Rattle.records.proofs.put_film.Tie as tie
 
 returns : tie.Need-returns
 unfolding filmFormat nameFormat serialFormat layoutFormat boxFormat pictureFormat film-steps
-returns c = let a = c .before .before .before .before .before .before .before .before .before .before .before .before .before .before .before .before .before .before .before .before .before .before .before .before .before .before .before .before .before .args in
-    rw (film-steps .same (a .x) (now (a .s)) (a .p) (search needs), c .before .before .put-boxes .ensures, c .before .before .before .before .before .before .before .put-serial .ensures, c .before .before .before .before .before .before .before .before .before .before .before .before .put-byte2 .ensures, c .before .before .before .before .before .before .before .before .before .before .before .before .before .before .before .before .put-byte .ensures, c .before .before .before .before .before .before .before .before .before .before .before .before .before .before .before .before .before .before .before .before .put-layout .ensures, c .before .before .before .before .before .before .before .before .before .before .before .before .before .before .before .before .before .before .before .before .before .before .before .before .before .put-name .ensures)
+returns c =
+    let boxes = c .before .before in
+    let first = boxes .before .before .before .before .before in
+    let magnification = first .before .before .before .before .before in
+    let orientation = magnification .before .before .before .before in
+    let layout = orientation .before .before .before .before in
+    let name = layout .before .before .before .before .before in
+    let start = name .before .before .before .before in
+    let a = start .args in
+    rw (film-steps .same (a .x) (now (a .s)) (a .p) (start .pre), boxes .put-boxes .ensures, first .put-serial .ensures, magnification .put-byte2 .ensures, orientation .put-byte .ensures, layout .put-layout .ensures, name .put-name .ensures)
 
 pub put-film-spec : {M : Type 1} → statement M
 put-film-spec =

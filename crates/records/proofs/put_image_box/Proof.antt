@@ -7,8 +7,13 @@ use Rattle.records.proofs.put_image_box.Tie as tie
 
 returns : tie.Need-returns
 unfolding boxFormat pictureFormat box-steps
-returns c = let a = c .before .before .before .before .before .before .before .before .before .before .before .before .before .before .args in
-    rw (box-steps .same (a .x) (now (a .s)) (a .p) (search needs), c .before .before .put-picture .ensures, c .before .before .before .before .before .before .before .put-byte2 .ensures, c .before .before .before .before .before .before .before .before .before .before .before .put-byte .ensures)
+returns c =
+    let picture = c .before .before in
+    let polarity = picture .before .before .before .before .before in
+    let position = polarity .before .before .before .before in
+    let start = position .before .before .before in
+    let a = start .args in
+    rw (box-steps .same (a .x) (now (a .s)) (a .p) (start .pre), picture .put-picture .ensures, polarity .put-byte2 .ensures, position .put-byte .ensures)
 
 pub put-image-box-spec : {M : Type 1} → statement M
 put-image-box-spec =

@@ -7,8 +7,12 @@ use Rattle.records.proofs.put_layout.Tie as tie
 
 returns : tie.Need-returns
 unfolding layoutFormat layout-steps
-returns c = let a = c .before .before .before .before .before .before .before .before .before .before .args in
-    rw (layout-steps .same (a .x) (now (a .s)) (a .p) (search needs), c .before .before .put-bytes6 .ensures, c .before .before .before .before .before .before .before .put-byte .ensures)
+returns c =
+    let counts = c .before .before in
+    let lines = counts .before .before .before .before .before in
+    let start = lines .before .before .before in
+    let a = start .args in
+    rw (layout-steps .same (a .x) (now (a .s)) (a .p) (start .pre), counts .put-bytes6 .ensures, lines .put-byte .ensures)
 
 pub put-layout-spec : {M : Type 1} → statement M
 put-layout-spec =

@@ -7,8 +7,13 @@ use Rattle.records.proofs.put_name.Tie as tie
 
 returns : tie.Need-returns
 unfolding nameFormat serialFormat name-steps
-returns c = let a = c .before .before .before .before .before .before .before .before .before .before .before .before .before .before .before .args in
-    rw (name-steps .same (a .x) (now (a .s)) (a .p) (search needs), c .before .before .put-bytes64 .ensures, c .before .before .before .before .before .before .before .put-byte .ensures, c .before .before .before .before .before .before .before .before .before .before .before .put-serial .ensures)
+returns c =
+    let text = c .before .before in
+    let used = text .before .before .before .before .before in
+    let made = used .before .before .before .before in
+    let start = made .before .before .before .before in
+    let a = start .args in
+    rw (name-steps .same (a .x) (now (a .s)) (a .p) (start .pre), text .put-bytes64 .ensures, used .put-byte .ensures, made .put-serial .ensures)
 
 pub put-name-spec : {M : Type 1} → statement M
 put-name-spec =

@@ -7,8 +7,15 @@ use Rattle.records.proofs.put_numbers.Tie as tie
 
 returns : tie.Need-returns
 unfolding numbersFormat numbers-steps
-returns c = let a = c .before .before .before .before .before .before .before .before .before .before .before .before .before .before .before .before .before .before .before .before .before .before .before .args in
-    rw (numbers-steps .same (a .x) (now (a .s)) (a .p) (search needs), c .before .before .put-number3 .ensures, c .before .before .before .before .before .before .before .put-number2 .ensures, c .before .before .before .before .before .before .before .before .before .before .before .put-number .ensures, c .before .before .before .before .before .before .before .before .before .before .before .before .before .before .before .put-bytes40 .ensures, c .before .before .before .before .before .before .before .before .before .before .before .before .before .before .before .before .before .before .before .before .put-byte .ensures)
+returns c =
+    let ticket = c .before .before in
+    let picture = ticket .before .before .before .before .before in
+    let serial = picture .before .before .before .before in
+    let root = serial .before .before .before .before in
+    let used = root .before .before .before .before .before in
+    let start = used .before .before .before in
+    let a = start .args in
+    rw (numbers-steps .same (a .x) (now (a .s)) (a .p) (start .pre), ticket .put-number3 .ensures, picture .put-number2 .ensures, serial .put-number .ensures, root .put-bytes40 .ensures, used .put-byte .ensures)
 
 pub put-numbers-spec : {M : Type 1} → statement M
 put-numbers-spec =

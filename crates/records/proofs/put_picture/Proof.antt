@@ -7,8 +7,11 @@ use Rattle.records.proofs.put_picture.Tie as tie
 
 returns : tie.Need-returns
 unfolding pictureFormat picture-steps
-returns c = let a = c .before .before .before .before .before .before .args in
-    rw (picture-steps .same (a .x) (now (a .s)) (a .p) (search needs), c .before .before .put-number .ensures)
+returns c =
+    let number = c .before .before in
+    let start = number .before .before .before .before in
+    let a = start .args in
+    rw (picture-steps .same (a .x) (now (a .s)) (a .p) (start .pre), number .put-number .ensures)
 
 pub put-picture-spec : {M : Type 1} → statement M
 put-picture-spec =

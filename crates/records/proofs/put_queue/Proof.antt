@@ -7,8 +7,12 @@ use Rattle.records.proofs.put_queue.Tie as tie
 
 returns : tie.Need-returns
 unfolding queueFormat entryFormat pictureFormat nameFormat serialFormat queue-steps
-returns c = let a = c .before .before .before .before .before .before .before .before .before .before .args in
-    rw (queue-steps .same (a .x) (now (a .s)) (a .p) (search needs), c .before .before .put-entries .ensures, c .before .before .before .before .before .before .before .put-byte .ensures)
+returns c =
+    let entries = c .before .before in
+    let count = entries .before .before .before .before .before in
+    let start = count .before .before .before in
+    let a = start .args in
+    rw (queue-steps .same (a .x) (now (a .s)) (a .p) (start .pre), entries .put-entries .ensures, count .put-byte .ensures)
 
 pub put-queue-spec : {M : Type 1} → statement M
 put-queue-spec =

@@ -7,8 +7,12 @@ use Rattle.records.proofs.put_shelf.Tie as tie
 
 returns : tie.Need-returns
 unfolding shelfFormat filmFormat nameFormat serialFormat layoutFormat boxFormat pictureFormat shelf-steps
-returns c = let a = c .before .before .before .before .before .before .before .before .before .before .args in
-    rw (shelf-steps .same (a .x) (now (a .s)) (a .p) (search needs), c .before .before .put-films .ensures, c .before .before .before .before .before .before .before .put-byte .ensures)
+returns c =
+    let films = c .before .before in
+    let count = films .before .before .before .before .before in
+    let start = count .before .before .before in
+    let a = start .args in
+    rw (shelf-steps .same (a .x) (now (a .s)) (a .p) (start .pre), films .put-films .ensures, count .put-byte .ensures)
 
 pub put-shelf-spec : {M : Type 1} → statement M
 put-shelf-spec =

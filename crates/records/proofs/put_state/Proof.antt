@@ -7,8 +7,12 @@ use Rattle.records.proofs.put_state.Tie as tie
 
 returns : tie.Need-returns
 unfolding stateFormat coreFormat numbersFormat sessionFormat nameFormat serialFormat shelfFormat filmFormat layoutFormat boxFormat pictureFormat queueFormat entryFormat openedFormat inputFormat state-steps
-returns c = let a = c .before .before .before .before .before .before .before .before .before .before .before .args in
-    rw (state-steps .same (a .x) (now (a .s)) (a .p) (search needs), c .before .before .put-input .ensures, c .before .before .before .before .before .before .before .put-core .ensures)
+returns c =
+    let input = c .before .before in
+    let core = input .before .before .before .before .before in
+    let start = core .before .before .before .before in
+    let a = start .args in
+    rw (state-steps .same (a .x) (now (a .s)) (a .p) (start .pre), input .put-input .ensures, core .put-core .ensures)
 
 pub put-state-spec : {M : Type 1} → statement M
 put-state-spec =
