@@ -58,7 +58,7 @@ data-fits o i message h c =
     (λ f. pick-cases So (eqb (i .phase) 3) (inData (commandHeld i) (take (i .got) message)) _ (λ g r. (c, omega (arith, r .1 .1)))
     (λ g. pick-cases So (eqb (i .phase) 4) (skippingData (commandHeld i)) idle (λ j r. c) (λ j r. tt))))
 
-sound-parts : (s : State) → sound s ≡ true → (coreSound (s .core) ≡ true) × (inputSound (s .core .opened) (s .input) ≡ true)
+pub sound-parts : (s : State) → sound s ≡ true → (coreSound (s .core) ≡ true) × (inputSound (s .core .opened) (s .input) ≡ true)
 unfolding sound
 sound-parts s e = both-true (coreSound (s .core)) (inputSound (s .core .opened) (s .input)) e
 

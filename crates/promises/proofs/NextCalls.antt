@@ -17,19 +17,26 @@ use Rattle.strike.specs.Machine as machine
 use Rattle.strike.specs.Machine.{idle, Outcome, Answer, refused, done, told, ignored, wait, dropped, failure, success, Records, checked, step, messageAfter}
 use Rattle.rules.specs.declared.Core.{Core}
 use Rattle.rules.specs.Responses.{Reply}
-use Rattle.rules.specs.Layout.{recordsSize, unpack}
+use Rattle.rules.specs.declared.Opened.{Opened}
+use Rattle.rules.specs.Layout.{stateFormat, recordsSize, unpack, pack}
 use Rattle.rules.specs.Sound.{coreSound, inputSound, sound}
-use Rattle.rules.specs.Calls.{Handed, startRules, check, started, printing}
+use Rattle.rules.specs.Calls.{Handed, startRules, check, started, taken, printing}
+use Rattle.rules.proofs.Sizes.{records-size}
 use Rattle.rules.specs.Outcomes as outcomes
-use Rattle.rules.specs.Outcomes.{recordsIn, inputHeld, written, numberOf, recordsRules, changed, unchanged, orUnchanged, starts, opens, closes, Taking, nothingTaken, tookFrom, took, takes, Feeding, Lent, nothingFed, fedFrom, fedTo, lengths, feeds}
+use Rattle.rules.specs.Outcomes.{recordsIn, inputHeld, written, coreWritten, numberOf, recordsRules, changed, unchanged, orUnchanged, starts, opens, closes, Taking, nothingTaken, tookFrom, took, takes, Feeding, Lent, nothingFed, fedFrom, fedTo, lengths, feeds}
 use Rattle.promises.proofs.Calls.{started-sound}
-use Rattle.promises.proofs.Sized.{Each}
+use Rattle.fields.specs.Format.{write}
+use Rattle.fields.proofs.Laws.{read-write}
+use Rattle.promises.proofs.Packed.{state-laws}
+use Rattle.promises.proofs.Sized.{Each, Sized}
 use Rattle.promises.proofs.SizedAfter.{started-sized}
 use Rattle.promises.proofs.Inputs.{fits-sound}
-use Rattle.promises.proofs.Keeping.{stateOf}
-use Rattle.promises.proofs.Good.{Byte, written-back}
-use Rattle.promises.proofs.Unpacked.{CallBytes}
-use Rattle.promises.proofs.Next.{afterCall, next-sound}
+use Rattle.promises.proofs.Keeping.{stateOf, call-sound}
+use Rattle.promises.proofs.Kept.{all-keep}
+use Rattle.promises.proofs.SizedSteps.{step-sized}
+use Rattle.promises.proofs.Good.{Byte, good-core, written-back}
+use Rattle.promises.proofs.Unpacked.{unpacked-good, unpacked-sized, CallBytes}
+use Rattle.promises.proofs.Next.{sound-parts, afterCall, next-sound}
 
 -- The calls over their buffers.
 
@@ -64,7 +71,24 @@ closes-sound b h o e =
     let x = step printing (recordsIn (unpack b) []) (close h) in
     first-cases LeavesKept (unchanged b) (recordsRules b) (orUnchanged b x) (λ n. e) (λ r. or-unchanged b x e (stepped b [] (close h) o tt e r))
 
-took-sound : (r : Records Core) (b e : List ℕ) (a : Answer Reply (List ℕ)) → RulesKept b → RulesKept (written r b) → RulesKept (tookFrom r b e a .records)
+-- A take: the input's bytes stay.
+
+-- the next call unpacks the new core, and the input that was there
+pub core-written-back : (k : Core) (b : List ℕ) → Bytes b → recordsSize ≤ length b → coreSound k ≡ true → Sized k → unpack (coreWritten k b) ≡ record { core = k; input = unpack b .input }
+unfolding coreWritten pack unpack write stateFormat
+core-written-back k b o long e z =
+    read-write state-laws (record { core = k; input = unpack b .input }) b 0 (good-core k e z, unpacked-good b o .1) (omega (arith, records-size))
+
+core-written-sound : (k : Core) (b : List ℕ) → Bytes b → recordsSize ≤ length b → coreSound k ≡ true → Sized k → inputSound (k .opened) (unpack b .input) ≡ true → RulesKept (coreWritten k b)
+unfolding sound
+core-written-sound k b o long e z i = ap sound (core-written-back k b o long e z) ∙ both-holds (coreSound k) (inputSound (k .opened) (unpack b .input)) e i
+
+open-kept : (x : Check) (s : Records Core) (h : Handed) → checked printing x s (aside h) .records .core .opened ≡ s .core .opened
+unfolding checked taken
+open-kept (refuses n) s h = refl
+open-kept passes s h = refl
+
+took-sound : (r : Records Core) (b e : List ℕ) (a : Answer Reply (List ℕ)) → RulesKept b → RulesKept (coreWritten (r .core) b) → RulesKept (tookFrom r b e a .records)
 took-sound r b e (told bytes) p q = q
 took-sound r b e (refused n) p q = p
 took-sound r b e done p q = p
@@ -75,12 +99,16 @@ took-sound r b e (failure reply d) p q = p
 took-sound r b e (success reply d) p q = p
 
 pub takes-sound : (b entry : List ℕ) (h : Handed) → Bytes b → RulesKept b → RulesKept (takes b entry h .records)
-unfolding takes
+unfolding takes step
 takes-sound b entry h o e =
     let x = step printing (recordsIn (unpack b) []) (aside h) in
     first-cases (λ (t : Taking). RulesKept (t .records)) (nothingTaken b entry) (recordsRules b) (took b entry x)
     (λ n. e)
-    (λ r. took-sound (x .records) b entry (x .answer) e (stepped b [] (aside h) o tt e r))
+    (λ r. took-sound (x .records) b entry (x .answer) e
+    (core-written-sound (x .records .core) b o (long-enough b r)
+    (sound-parts (stateOf (x .records)) (call-sound all-keep (unpack b) [] (aside h) e) .0)
+    (step-sized (recordsIn (unpack b) []) (aside h) (unpacked-sized b o))
+    (ap (λ (w : Opened). inputSound w (unpack b .input)) (open-kept (check (unpack b .core) (aside h)) (recordsIn (unpack b) []) h) ∙ sound-parts (unpack b) e .1)))
 
 fed-from-sound : (l : Lent) (r : Records Core) (message : List ℕ) (a : Answer Reply (List ℕ)) → RulesKept (l .records) → RulesKept (written r (l .records)) → RulesKept (fedFrom l r message a .records)
 fed-from-sound l r message (refused n) p q = pick-cases (λ (f : Feeding). RulesKept (f .records)) (eqb n 5) (outcomes.fedOnly l r message 5) (nothingFed l n) (λ e. q) (λ e. p)
