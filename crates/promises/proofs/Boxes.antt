@@ -28,7 +28,7 @@ use Rattle.rules.specs.Attributes.{Listing, look, Standing, missing, empty, wro
 use Rattle.rules.specs.Effects.{noPictureLeft, filmAt, withBoxes, boxSetIn, numbersAfter, boxSet}
 use Rattle.rules.specs.Checks.{boxRules}
 use Rattle.rules.specs.Sound.{between, sentText, numbersSound, sessionSound, sessionBlank, boxSound, filmSound, shelfSound, serialsOf, uidsApart, coreSound}
-use Rattle.promises.proofs.Every.{every-set, every-at, films-shelved}
+use Rattle.promises.proofs.ListLaws.{every-set, every-at, films-shelved}
 use Rattle.promises.proofs.Facts.{between-true, between-holds, core-facts, core-sound, numbers-facts, numbers-sound, shelf-facts, shelved-sound}
 use Rattle.promises.proofs.Sessions.{or-kept, code-given}
 use Rattle.promises.proofs.Laws.{Later, pick-so, box-facts, box-sound, film-facts, film-sound, session-later, film-later, films-later, queue-later}

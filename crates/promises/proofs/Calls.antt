@@ -21,7 +21,7 @@ use Rattle.rules.specs.Records.{rootOf, filmsOf, entriesOf, shelved, noSession,
 use Rattle.rules.specs.Effects.{sessionDeleted}
 use Rattle.rules.specs.Sound.{between, numbersSound, serialsOf, uidsApart, sessionBlank, entrySound, filmSound, openedSound, coreSound}
 use Rattle.rules.specs.Calls.{Handed, badRoot, badNumber, badContext, badSyntax, messageWrong, startRules, openRules, started, opened, closed, taken}
-use Rattle.promises.proofs.Every.{all-holds, take-filled, behind-filled, every-drop, films-shelved}
+use Rattle.promises.proofs.ListLaws.{all-holds, take-filled, behind-filled, every-drop, films-shelved}
 use Rattle.promises.proofs.Facts.{between-holds, core-facts, core-sound, numbers-sound, queue-facts, shelved-sound, queued-sound}
 
 -- Nothing live.

@@ -1,7 +1,7 @@
 -- The data set of a created film with the UIDs that were made for its boxes: it fits its buffer, and its i-th item names the i-th of them.
 -- Assumes nothing.
 use Prim.Native.Nat.{ℕ, zero, suc, _+_, _<_, _≤_}
-use mathlib.Core.Path.{_≡_, refl, ap, _∙_, subst}
+use mathlib.Core.Path.{_≡_, ap, _∙_, subst}
 use mathlib.Core.Bool.{Bool, true}
 use mathlib.Core.List.{List, [], _∷_, map}
 use native.Mathlib.Omega.{arith}
@@ -17,13 +17,9 @@ use Rattle.rules.specs.Lists.{from}
 use Rattle.rules.specs.Records.{rootOf, boxCount, boxUids}
 use Rattle.rules.specs.Attributes.{valueOf}
 use Rattle.rules.specs.Responses.{filmTree}
+use Rattle.promises.proofs.ListLaws.{from-length}
 use Rattle.promises.proofs.Fitting.{AllShort, film-fits}
 use Rattle.promises.proofs.FilmBack.{itemListing, BoxMeans, FilmMeans, box-at, film-means}
-
-from-length : (n count : ℕ) → length (from n count) ≡ count
-unfolding from
-from-length n zero = refl
-from-length n (suc count) = ap suc (from-length (n + 1) count)
 
 -- UIDs made of a root of at most 40 characters have at most 51
 all-made-short : (root : List ℕ) (serials : List ℕ) → length root ≤ 40 → AllShort (map (made root) serials)

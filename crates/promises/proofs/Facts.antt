@@ -21,7 +21,7 @@ use Rattle.rules.specs.declared.Core.{Core}
 use Rattle.rules.specs.Lists.{every}
 use Rattle.rules.specs.Records.{rootOf, filmsOf, entriesOf, isLive, shelved, queued}
 use Rattle.rules.specs.Sound.{between, zeros, flag, numbersSound, sessionSound, sessionBlank, filmSound, filmBlank, shelfSound, entrySound, entryBlank, queueSound, uidsApart, openedSound, coreSound}
-use Rattle.promises.proofs.Every.{all-true, all-holds, films-behind, entries-behind, films-shelved, entries-queued}
+use Rattle.promises.proofs.ListLaws.{all-true, all-holds, films-behind, entries-behind, films-shelved, entries-queued}
 
 pub between-true : (low high n : ℕ) → between low high n ≡ true → (low ≤ n) × (n ≤ high)
 between-true low high n e =

@@ -1,8 +1,8 @@
 -- A box that is filled: it gets the picture number that was next.
 -- Assumes that a film has room for 36 boxes, as its bytes have.
-use Prim.Native.Nat.{ℕ, _+_, _*_, _≤_, _<_}
+use Prim.Native.Nat.{ℕ, _*_, _≤_}
 use mathlib.Core.Path.{_≡_}
-use mathlib.Core.Bool.{Bool, true}
+use mathlib.Core.Bool.{true}
 use mathlib.Core.List.{List, [], _∷_}
 use native.Mathlib.Omega.{arith}
 use lib.Dec.{eqb, leb}
@@ -18,7 +18,7 @@ use Rattle.rules.specs.Records.{boxCount, noBox, noFilm, filmsOf, theBox, named
 use Rattle.rules.specs.Attributes.{Listing, imageIn, isFill}
 use Rattle.rules.specs.Effects.{filmAt, boxSet}
 use Rattle.rules.specs.Sound.{layoutSound, filmSound, coreSound}
-use Rattle.promises.proofs.ListLaws.{all-holds, every-at, every-parts}
+use Rattle.promises.proofs.ListLaws.{all-true, every-at, every-parts}
 use Rattle.promises.proofs.Films.{rules-of, films-of}
 use Rattle.promises.proofs.Places.{box-there}
 use Rattle.promises.proofs.Numbers.{box-picture}
@@ -36,7 +36,7 @@ sum-most c (x ∷ xs) h e =
 pub boxes-most : (l : Layout) → layoutSound l ≡ true → boxCount l ≤ 36
 unfolding layoutSound boxCount
 boxes-most l e =
-    let h = all-holds _ e in
+    let h = all-true _ e in
     let lines = leb-true (l .lines) 6 (both-true (leb 1 (l .lines)) (leb (l .lines) 6) (h .0) .1) in
     let columns = leb-true (getD (l .counts) 0 0) 6 (both-true (leb 1 (getD (l .counts) 0 0)) (leb (getD (l .counts) 0 0) 6) (h .1 .0) .1) in
     let s = sum-most (getD (l .counts) 0 0) (take (l .lines) (l .counts)) columns (h .1 .1 .0) in
@@ -45,7 +45,7 @@ boxes-most l e =
 
 film-layout : (n : Numbers) (f : Film) → filmSound n f ≡ true → layoutSound (f .layout) ≡ true
 unfolding filmSound
-film-layout n f e = all-holds _ e .1 .0
+film-layout n f e = all-true _ e .1 .0
 
 -- the box that a UID names, after an image filled it
 pub filled-picture : (k : Core) (uid : List ℕ) (i j : ℕ) (l : Listing) → coreSound k ≡ true → length (filmAt k i .boxes) ≡ 36 → named k uid ≡ theBox i j → isFill (imageIn l) ≡ true → getD (filmAt (boxSet k i j l) i .boxes) j noBox .picture .0 ≡ k .numbers .picture

@@ -26,10 +26,10 @@ use Rattle.rules.specs.Attributes.{Listing, look, valueOf, is, wrong, fine, man
 use Rattle.rules.specs.Effects.{ownSerials, nameFrom, newBox, newFilm, filmSerials, filmCreated}
 use Rattle.rules.specs.Checks.{isNobody, createRules, newFilmRules, sentUid}
 use Rattle.rules.specs.Sound.{numbersSound, nameSound, sessionSound, sessionBlank, layoutSound, boxBlank, filmSound, Serials, overlap, ownSerial, serialsOf, sentText, sameText, uidsApart, coreSound}
-use Rattle.promises.proofs.ListLaws.{films-shelved, all-holds, holds-all, every-weak, every-append, every-nil, every-one, every-cons, every-parts, every-replicate, apart-one, apart-append, map-append}
+use Rattle.promises.proofs.ListLaws.{films-shelved, all-true, all-holds, every-so, every-append, every-nil, every-one, every-cons, every-parts, every-replicate, apart-one, apart-append, map-append, from-length}
 use Rattle.promises.proofs.Codes.{any-behind}
 use Rattle.promises.proofs.Standings.{AllFine, kept-fine, fine-front, mandatory-fine, reference-live}
-use Rattle.promises.proofs.Layouts.{counts-grid, layout-sound, from-length, new-boxes, between-holds}
+use Rattle.promises.proofs.Layouts.{counts-grid, layout-sound, new-boxes, between-holds}
 use Rattle.promises.proofs.Later.{Counted, counted, film-name-sound, Later, session-later, film-later, queue-later}
 use Rattle.promises.proofs.Names.{Sendable, sendable, name-from-sound, apart-later, apart-none, own-below, text-none, text-free}
 use Rattle.promises.proofs.Films.{rules-of, of-rules, filmRoom, films-of, shelf-of, film-with-sound}
@@ -57,9 +57,9 @@ after-later k sent l = record { root = refl; serials = omega arith; pictures = o
 after-sound : (k : Core) (sent : List ℕ) (l : Listing) → numbersSound (k .numbers) ≡ true → k .numbers .serial + filmSerials sent l ≤ noneLeft → numbersSound (after k sent l) ≡ true
 unfolding numbersSound rootOf
 after-sound k sent l e g =
-    let h = all-holds _ e in
+    let h = all-true _ e in
     let s = leb-true 1 (k .numbers .serial) (both-true (leb 1 (k .numbers .serial)) (leb (k .numbers .serial) noneLeft) (h .1 .1 .1 .0) .0) in
-    holds-all _ (h .0, (h .1 .0, (h .1 .1 .0, (between-holds 1 noneLeft (k .numbers .serial + filmSerials sent l) (omega arith) g, h .1 .1 .1 .1))))
+    all-holds _ (h .0, (h .1 .0, (h .1 .1 .0, (between-holds 1 noneLeft (k .numbers .serial + filmSerials sent l) (omega arith) g, h .1 .1 .1 .1))))
 
 layout-in-sound : (l : Listing) → mandatory blank (λ v. not (eqb (length (countsIn v)) 0)) l (look l 0x2010_0010) ≡ fine → layoutSound (layoutIn l) ≡ true
 unfolding layoutIn
@@ -82,7 +82,7 @@ base-sound k sent l s c y =
     let zs = replicate (mostBoxes - length xs) noBox in
     let size : length xs ≡ count = length-map (from 1 count) newBox ∙ from-length 1 count in
     let c1 = c .serials in
-    holds-all _ (
+    all-holds _ (
       name-from-sound k sent m s (after-later k sent l .root) (c .serials) (omega arith),
       (
         y,
@@ -123,7 +123,7 @@ module _ (n : Numbers) (P : Serials → Bool) (low : (a : Serials) → a .from +
   film-serials : (f : Film) → filmSound n f ≡ true → (P (ownSerial (f .name)) ≡ true) × (P (record { from = f .first .0; count = boxCount (f .layout) }) ≡ true)
   unfolding filmSound
   film-serials f e =
-      let h = all-holds _ e in (
+      let h = all-true _ e in (
         low (ownSerial (f .name)) (own-below n (f .name) (h .0)),
         low (record { from = f .first .0; count = boxCount (f .layout) }) (leb-true (f .first .0 + boxCount (f .layout)) (n .serial) (h .1 .1 .1 .1 .1 .0)),
       )
@@ -261,7 +261,7 @@ unfolding newFilm filmWith
 new-name k sent l = refl
 
 live-name : (n : Numbers) (s : Session) → pick (isLive s) (sessionSound n s) (sessionBlank s) ≡ true → isLive s ≡ true → nameSound n (s .name) ≡ true
-live-name n s e l = all-holds _ (rw l at e) .0
+live-name n s e l = all-true _ (rw l at e) .0
 
 new-uids : (k : Core) (sent : List ℕ) (l : Listing) → coreSound k ≡ true → Sendable k sent → isLive (k .session) ≡ true → uidsApart (k .session) (filmsOf (k .shelf) ++ (newFilm k sent l ∷ [])) ≡ true
 unfolding uidsApart
@@ -302,7 +302,7 @@ film-created-sound k sent l e s h =
       session = session-later n m later (k .session) (r .session);
       shelf = shelf-of m (k .session) all-new (record {
         few = rw (length-append films (new ∷ []), room) (omega arith);
-        each = every-append (filmSound m) films (new ∷ []) (every-weak (filmSound n) (filmSound m) (film-later n m later) films (old .each)) (every-one (filmSound m) new (new-film-sound k sent l s (counted n (r .numbers)) (c .layout) (c .optional)));
+        each = every-append (filmSound m) films (new ∷ []) (every-so (filmSound n) (filmSound m) (film-later n m later) films (old .each)) (every-one (filmSound m) new (new-film-sound k sent l s (counted n (r .numbers)) (c .layout) (c .optional)));
       });
       queue = queue-later n m later (k .queue) (r .queue);
       uids = rw (films-shelved all-new) (new-uids k sent l e s (c .live));

@@ -22,7 +22,7 @@ use Rattle.rules.specs.Values.{blank, codeIn, orientations, magnifications}
 use Rattle.rules.specs.Attributes.{Listing, look, is, wrong, code, optional, orKept, attributeRules, optionalFilm, mustBeAbsent, filmSetStandings, filmWith}
 use Rattle.rules.specs.Effects.{filmAt, filmDeleted, filmSet}
 use Rattle.rules.specs.Sound.{numbersSound, sessionSound, sessionBlank, filmSound, filmBlank, shelfSound, queueSound, openedSound, flag, overlap, ownSerial, serialsOf, sentText, sameText, uidsApart, coreSound}
-use Rattle.promises.proofs.ListLaws.{films-shelved, all-holds, holds-all, every-replicate, every-at, every-set, every-part, apart-part, Part, done, skip, keep, part-map, part-without}
+use Rattle.promises.proofs.ListLaws.{films-shelved, all-true, all-holds, every-replicate, every-at, every-set, every-part, apart-part, Part, done, skip, keep, part-map, part-without}
 use Rattle.promises.proofs.Codes.{code-fine, any-none, any-behind}
 
 -- the rules of the records, each by its name
@@ -38,12 +38,12 @@ pub record Kept-rules (k : Core) : Type 0 where
 pub rules-of : (k : Core) → coreSound k ≡ true → Kept-rules k
 unfolding coreSound
 rules-of k e =
-    let h = all-holds _ e in
+    let h = all-true _ e in
     record { numbers = h .0; flagged = h .1 .0; session = h .1 .1 .0; shelf = h .1 .1 .1 .0; queue = h .1 .1 .1 .1 .0; uids = h .1 .1 .1 .1 .1 .0; opening = h .1 .1 .1 .1 .1 .1 .0 }
 
 pub of-rules : (k : Core) → Kept-rules k → coreSound k ≡ true
 unfolding coreSound
-of-rules k r = holds-all _ (r .numbers, (r .flagged, (r .session, (r .shelf, (r .queue, (r .uids, (r .opening, tt)))))))
+of-rules k r = all-holds _ (r .numbers, (r .flagged, (r .session, (r .shelf, (r .queue, (r .uids, (r .opening, tt)))))))
 
 -- how many films there may be
 abbrev pub filmRoom : Session → ℕ
@@ -57,7 +57,7 @@ pub record Kept-films (n : Numbers) (s : Session) (films : List Film) : Type 0 w
 pub films-of : (n : Numbers) (s : Session) (shelf : Shelf) → shelfSound n s shelf ≡ true → Kept-films n s (filmsOf shelf)
 unfolding shelfSound filmsOf
 films-of n s shelf e =
-    let h = all-holds _ e in
+    let h = all-true _ e in
     record { few = let c = leb-true (shelf .count) (filmRoom s) (h .0) in simp length-take (omega arith); each = h .1 .0 }
 
 blank-film : filmBlank noFilm ≡ true
@@ -67,7 +67,7 @@ blank-film = refl
 pub shelf-of : (n : Numbers) (s : Session) (films : List Film) → Kept-films n s films → shelfSound n s (shelved films) ≡ true
 unfolding shelfSound filmsOf shelved
 shelf-of n s films h =
-    holds-all _ (
+    all-holds _ (
       le-leb (length films) (filmRoom s) (h .few),
       (
         rw (films-shelved films) (h .each),
@@ -130,14 +130,14 @@ film-deleted-sound k i e =
 pub film-with-sound : (n : Numbers) (l : Listing) (f : Film) → any (is wrong) (optionalFilm l) ≡ false → filmSound n f ≡ true → filmSound n (filmWith l f) ≡ true
 unfolding filmSound filmWith boxesOf optionalFilm
 film-with-sound n l f w e =
-    let h = all-holds _ e in
+    let h = all-true _ e in
     let a = any-none (is wrong) (optional (code orientations l 0x2010_0040)) (optional (code magnifications l 0x2010_0060) ∷ []) w in
     let b = any-none (is wrong) (optional (code magnifications l 0x2010_0060)) [] (a .1) in
     let o = leb-true (f .orientation) 1 (h .1 .1 .0) in
     let m = leb-true (f .magnification) 3 (h .1 .1 .1 .0) in
     let o' : orKept blank l 0x2010_0040 (codeIn orientations) (f .orientation) < 2 = code-fine orientations l 0x2010_0040 (f .orientation) (omega arith) (a .0) in
     let m' : orKept blank l 0x2010_0060 (codeIn magnifications) (f .magnification) < 4 = code-fine magnifications l 0x2010_0060 (f .magnification) (omega arith) (b .0) in
-    holds-all _ (
+    all-holds _ (
       h .0,
       (
         h .1 .0,

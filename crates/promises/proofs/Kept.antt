@@ -1,6 +1,5 @@
 -- Every call keeps the rules of the records: a state that keeps them is followed by one that does, in any run.
 -- Assumes nothing.
-use Prim.Native.Nat.{ℕ}
 use mathlib.Core.Path.{_≡_}
 use mathlib.Core.Bool.{true}
 use mathlib.Core.List.{List}

@@ -23,7 +23,7 @@ use Rattle.rules.specs.declared.Numbers.{Numbers}
 use Rattle.rules.specs.Lists.{every}
 use Rattle.rules.specs.Records.{rootOf, madeName, sentName, boxCount, boxesOf, serialsUsed}
 use Rattle.rules.specs.Sound.{between, zeros, flag, nameSound, sentSound, madeSound, numbersSound, layoutSound, boxSound, boxBlank, filmSound, entrySound, queueSound, sessionSound}
-use Rattle.promises.proofs.Every.{all-true, all-holds, every-so, take-filled, behind-filled, zeros-replicate}
+use Rattle.promises.proofs.ListLaws.{all-true, all-holds, every-so, take-filled, behind-filled, zeros-replicate}
 use Rattle.promises.proofs.Facts.{between-true, between-holds, numbers-facts, queue-facts, queue-sound}
 use Rattle.promises.proofs.Sessions.{session-facts, session-sound}
 

@@ -1,7 +1,7 @@
 -- The layout of a film that is created, and its boxes.
 -- Assumes nothing.
 use Prim.Native.Nat.{ℕ, zero, suc, _+_, _-_, _≤_}
-use mathlib.Core.Path.{_≡_, refl, ap}
+use mathlib.Core.Path.{_≡_, refl}
 use mathlib.Core.Bool.{Bool, true, false}
 use mathlib.Core.List.{List, [], _∷_, map}
 use native.Mathlib.Omega.{arith}
@@ -19,7 +19,7 @@ use Rattle.rules.specs.Values.{withoutTrailing, oneToSix, standard, countsIn}
 use Rattle.rules.specs.Attributes.{layoutFrom}
 use Rattle.rules.specs.Effects.{newBox}
 use Rattle.rules.specs.Sound.{between, layoutSound, boxSound}
-use Rattle.promises.proofs.ListLaws.{holds-all, every-replicate}
+use Rattle.promises.proofs.ListLaws.{all-holds, every-replicate}
 
 -- so many lines of so many boxes each
 pub record Grid (counts : List ℕ) : Type 0 where
@@ -68,7 +68,7 @@ lines-sound r c h g m =
     let xs = replicate (suc r) c in
     let z : List ℕ = replicate (6 - length xs) 0 in
     let n : length xs ≡ suc r = length-replicate (suc r) c in
-    holds-all _ (
+    all-holds _ (
       between-holds 1 6 (length xs) (omega arith) (omega arith),
       (
         between-holds 1 6 c g m,
@@ -87,15 +87,10 @@ layout-sound counts g = rw (g .lines) (lines-sound (g .more) (g .columns) (g .fe
 
 -- The boxes.
 
-pub from-length : (a n : ℕ) → length (from a n) ≡ n
-unfolding from
-from-length a zero = refl
-from-length a (suc n) = ap suc (from-length (a + 1) n)
-
 pub new-boxes : (m : Numbers) (boxes : ℕ) → 1 ≤ m .picture → (a n : ℕ) → 1 ≤ a → a + n ≤ boxes + 1 → every (boxSound boxes m) (map newBox (from a n)) ≡ true
 unfolding every from
 new-boxes m boxes p a zero h g = refl
 new-boxes m boxes p a (suc n) h g =
     both-holds (boxSound boxes m (newBox a)) (every (boxSound boxes m) (map newBox (from (a + 1) n)))
-    (holds-all (between 1 boxes a ∷ leb 0 1 ∷ ltb 0 (m .picture) ∷ []) (between-holds 1 boxes a h (omega arith), (refl, (lt-ltb 0 (m .picture) (omega arith), tt))))
+    (all-holds (between 1 boxes a ∷ leb 0 1 ∷ ltb 0 (m .picture) ∷ []) (between-holds 1 boxes a h (omega arith), (refl, (lt-ltb 0 (m .picture) (omega arith), tt))))
     (new-boxes m boxes p (a + 1) n (omega arith) (omega arith))

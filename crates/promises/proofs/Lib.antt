@@ -2,7 +2,6 @@
 pub mod Packed
 pub mod StrikeOut
 pub mod Fakes
-pub mod Every
 pub mod Facts
 pub mod Laws
 pub mod Calls

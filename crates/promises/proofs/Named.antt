@@ -22,7 +22,7 @@ use Rattle.rules.specs.Effects.{filmAt, sessionSet, boxSet}
 use Rattle.rules.specs.Checks.{boxRules}
 use Rattle.rules.specs.Sound.{coreSound}
 use Rattle.rules.specs.Calls.{Handed, startRules, openRules, check, started, opened}
-use Rattle.promises.proofs.Every.{place-below, place-passes}
+use Rattle.promises.proofs.ListLaws.{place-below, place-passes}
 use Rattle.promises.proofs.Calls.{started-sound, opened-sound}
 use Rattle.promises.proofs.Sessions.{session-set-sound}
 use Rattle.promises.proofs.Boxes.{box-set-sound}

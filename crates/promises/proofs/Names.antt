@@ -23,7 +23,7 @@ use Rattle.rules.specs.Commands.{uidAt}
 use Rattle.rules.specs.Effects.{ownSerials, nameFrom}
 use Rattle.rules.specs.Checks.{isNobody, isSent, createRules, sentUid}
 use Rattle.rules.specs.Sound.{nameSound, nameBlank, sentSound, madeSound, Serials, overlap, ownSerial, sentText, sameText}
-use Rattle.promises.proofs.ListLaws.{all-holds, holds-all, every-replicate}
+use Rattle.promises.proofs.ListLaws.{all-true, all-holds, every-replicate}
 use Rattle.promises.proofs.Layouts.{between-holds}
 
 -- What check 6 tells of a UID that is sent; none is sent where it is empty.
@@ -50,14 +50,14 @@ made-name-sound : (m : Numbers) (s : ℕ) → 1 ≤ s → s < m .serial → name
 unfolding nameSound
 made-name-sound m s h g =
     rw (ne-eqb s 0 (λ e. omega arith))
-    (holds-all _ (lt-ltb s (m .serial) g, (refl, (every-replicate (λ (b : ℕ). eqb b 0) 64 0 refl, tt))))
+    (all-holds _ (lt-ltb s (m .serial) g, (refl, (every-replicate (λ (b : ℕ). eqb b 0) 64 0 refl, tt))))
 
 sent-name-sound : (m : Numbers) (sent : List ℕ) → (length sent ≡ 0 → ⊥) → isUid sent ≡ true → beginsWith (rootOf m) sent ≡ false → nameSound m (sentName sent) ≡ true
 unfolding nameSound isUid
 sent-name-sound m sent n u b =
     let z : List ℕ = replicate (64 - length sent) 0 in
     let short = leb-true (length sent) 64 (both-true (leb (length sent) 64) (components [] sent) u .0) in
-    holds-all _ (
+    all-holds _ (
       between-holds 1 64 (length sent) (omega arith) short,
       (
         rw (take-append-seam sent z) u,
@@ -97,11 +97,11 @@ own-below n name e = below (eqb (name .made .0) 0) refl e
   where
     below : (t : Bool) → eqb (name .made .0) 0 ≡ t → pick t (sentSound n name) (madeSound n name) ≡ true → name .made .0 + pick t 0 1 ≤ n .serial
     below true t e = let z = eqb-true (name .made .0) 0 t in omega arith
-    below false t e = let l = ltb-true (name .made .0) (n .serial) (all-holds _ e .0) in omega arith
+    below false t e = let l = ltb-true (name .made .0) (n .serial) (all-true _ e .0) in omega arith
 
 pub blank-below : (n : ℕ) (name : Name) → nameBlank name ≡ true → ownSerial name .from + ownSerial name .count ≤ n
 blank-below n name e =
-    let z = all-holds _ e .0 in
+    let z = all-true _ e .0 in
     let o = eqb-true (name .made .0) 0 z in
     rw (z, o) (omega arith)
 
@@ -131,4 +131,4 @@ text-free n name sent e f = free (eqb (name .made .0) 0) e f
   where
     free : (t : Bool) → pick t (sentSound n name) (madeSound n name) ≡ true → same sent (pick t (take (name .used) (name .text)) (made (rootOf n) (name .made .0))) ≡ false → sameText (sentText name) sent ≡ false
     free true e f = both-false (not (eqb (length (sentText name)) 0)) (same (sentText name) sent) (same-other sent (sentText name) f)
-    free false e f = rw (eqb-true (name .used) 0 (all-holds _ e .1 .0))
+    free false e f = rw (eqb-true (name .used) 0 (all-true _ e .1 .0))

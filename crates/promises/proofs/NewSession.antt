@@ -28,7 +28,7 @@ use Rattle.rules.specs.Attributes.{Listing, sessionWith}
 use Rattle.rules.specs.Effects.{ownSerials, nameFrom, tooFewSerials, renamed, sessionCreated}
 use Rattle.rules.specs.Checks.{isSent, createRules, newSessionRules, sentUid}
 use Rattle.rules.specs.Sound.{nameSound, numbersSound, filmSound, shelfSound, serialsOf, uidsApart, coreSound}
-use Rattle.promises.proofs.Every.{zeros-replicate}
+use Rattle.promises.proofs.ListLaws.{zeros-replicate}
 use Rattle.promises.proofs.Facts.{between-true, between-holds, core-facts, core-sound, numbers-facts, numbers-sound, shelf-facts, shelf-sound}
 use Rattle.promises.proofs.Sessions.{ValueFacts, session-sound, values-with}
 use Rattle.promises.proofs.Laws.{Later, queue-later, made-name, sent-name}

@@ -15,7 +15,7 @@ use Rattle.rules.specs.declared.Numbers.{Numbers}
 use Rattle.rules.specs.declared.Core.{Core}
 use Rattle.rules.specs.Lists.{any, placeOf, from}
 use Rattle.rules.specs.Records.{rootOf, uidOf, boxCount, boxUids, noFilm, isLive, filmsOf, filmNamed, boxNamed, nobody, theSession, theFilm, theBox, named}
-use Rattle.promises.proofs.Layouts.{from-length}
+use Rattle.promises.proofs.ListLaws.{from-length}
 
 -- a place whose element passes the test
 pub place-there : {A : Type 0} (t : A → Bool) (xs : List A) → any t xs ≡ true → placeOf t xs < length xs

@@ -25,7 +25,7 @@ use Rattle.rules.specs.Records.{picture, rootOf, boxCount, boxesOf, filled, noF
 use Rattle.rules.specs.Effects.{filmAt, nextTicket, ticketed, ticketAfter, pictureOn, entryOf, entriesFor, printed, queueRoom}
 use Rattle.rules.specs.Checks.{sessionPrintRules, filmPrintRules}
 use Rattle.rules.specs.Sound.{between, numbersSound, sessionSound, sessionBlank, boxSound, filmSound, entrySound, entryBlank, queueSound, coreSound}
-use Rattle.promises.proofs.ListLaws.{entries-queued, all-holds, holds-all, every-weak, every-append, every-one, every-at, every-replicate, every-map}
+use Rattle.promises.proofs.ListLaws.{entries-queued, all-true, all-holds, every-so, every-append, every-one, every-at, every-replicate, every-map}
 use Rattle.promises.proofs.Later.{counted, film-name-sound, Later, session-later, shelf-later, entry-later}
 use Rattle.promises.proofs.Films.{rules-of, of-rules, films-of}
 use Rattle.promises.proofs.Tickets.{new-length}
@@ -39,7 +39,7 @@ pub record Kept-entries (n : Numbers) (es : List Entry) : Type 0 where
 pub entries-of : (n : Numbers) (q : Queue) → queueSound n q ≡ true → Kept-entries n (entriesOf q)
 unfolding queueSound entriesOf
 entries-of n q e =
-    let h = all-holds _ e in
+    let h = all-true _ e in
     record { few = let c = leb-true (q .count) mostEntries (h .0) in simp length-take (omega arith); each = h .1 .0 }
 
 blank-entry : entryBlank noEntry ≡ true
@@ -49,7 +49,7 @@ blank-entry = refl
 pub queue-of : (n : Numbers) (es : List Entry) → Kept-entries n es → queueSound n (queued es) ≡ true
 unfolding queueSound entriesOf queued
 queue-of n es h =
-    holds-all _ (
+    all-holds _ (
       le-leb (length es) mostEntries (h .few),
       (
         rw (entries-queued es) (h .each),
@@ -69,19 +69,19 @@ module _ (n : Numbers) (some : 1 ≤ n .picture) where
   picture-sound boxes (b ∷ bs) e position =
       let h = both-true (boxSound boxes n b) (every (boxSound boxes n) bs) e in
       pick-cases (λ (p : Picture). ltb (p .0) (n .picture) ≡ true) (both (filled b) (eqb (b .position) position)) (b .picture) (pictureOn bs position)
-      (λ x. all-holds (between 1 boxes (b .position) ∷ leb (b .polarity) 1 ∷ ltb (b .picture .0) (n .picture) ∷ []) (h .0) .1 .1 .0)
+      (λ x. all-true (between 1 boxes (b .position) ∷ leb (b .polarity) 1 ∷ ltb (b .picture .0) (n .picture) ∷ []) (h .0) .1 .1 .0)
       (λ x. picture-sound boxes bs (h .1) position)
 
   pictures-sound : (f : Film) → filmSound n f ≡ true → every (λ (p : Picture). ltb (p .0) (n .picture)) (map (pictureOn (boxesOf f)) (from 1 mostBoxes)) ≡ true
   unfolding filmSound
   pictures-sound f e =
-      let h = all-holds _ e in
+      let h = all-true _ e in
       every-map (λ (p : Picture). ltb (p .0) (n .picture)) (pictureOn (boxesOf f)) (picture-sound (boxCount (f .layout)) (boxesOf f) (h .1 .1 .1 .1 .1 .1 .0)) (from 1 mostBoxes)
 
   module _ (k : Core) (copies : between 1 99 (k .session .copies) ≡ true) where
     entry-sound : (t : ℕ) (f : Film) → filmSound n f ≡ true → entrySound n (entryOf k t f) ≡ true
     unfolding entrySound entryOf
-    entry-sound t f e = holds-all _ (pictures-sound f e, (copies, (film-name-sound n f e, tt)))
+    entry-sound t f e = all-holds _ (pictures-sound f e, (copies, (film-name-sound n f e, tt)))
 
     new-sound : (t : ℕ) (films : List Film) → every (filmSound n) films ≡ true → every (entrySound n) (entriesFor k t films) ≡ true
     unfolding entriesFor every
@@ -101,7 +101,7 @@ films-live k e h = live (isLive (k .session)) (length (filmsOf (k .shelf))) h (f
     live false n h g = absurd (omega arith)
 
 live-copies : (n : Numbers) (s : Session) → pick (isLive s) (sessionSound n s) (sessionBlank s) ≡ true → isLive s ≡ true → between 1 99 (s .copies) ≡ true
-live-copies n s e l = let h = all-holds _ (rw l at e) in h .1 .0
+live-copies n s e l = let h = all-true _ (rw l at e) in h .1 .0
 
 ticketed-later : (t : ℕ) (n : Numbers) → Later n (ticketed t n)
 unfolding rootOf
@@ -131,7 +131,7 @@ printed-sound k films e l g room =
       shelf = shelf-later n (ticketed t n) later (k .session) (k .shelf) (r .shelf);
       queue = queue-of (ticketed t n) (es ++ new) (record {
         few = rw (length-append es new, new-length k (n .ticket) films) room;
-        each = every-weak (entrySound n) (entrySound (ticketed t n)) (entry-later n (ticketed t n) later) (es ++ new) each;
+        each = every-so (entrySound n) (entrySound (ticketed t n)) (entry-later n (ticketed t n) later) (es ++ new) each;
       });
       uids = r .uids;
       opening = r .opening;

@@ -26,7 +26,7 @@ use Rattle.rules.specs.Commands.{bytesOf, placed}
 use Rattle.rules.specs.Attributes.{Listing, look, valueOf, Standing, empty, wrong, fineIf, mandatory, optional, is, attributeRules, given, orKept, codeAllowed, code, sessionStandings, sessionWith}
 use Rattle.rules.specs.Effects.{sessionSet}
 use Rattle.rules.specs.Sound.{between, zeros, labelOf, nameSound, sessionSound, sessionBlank, shelfSound, uidsApart, coreSound}
-use Rattle.promises.proofs.Every.{all-true, all-holds, take-filled, behind-filled}
+use Rattle.promises.proofs.ListLaws.{all-true, all-holds, take-filled, behind-filled}
 use Rattle.promises.proofs.Facts.{between-holds, core-facts, core-sound}
 
 -- A text trimmed is not trimmed further.
