@@ -1,17 +1,21 @@
 -- What the rules of the records say, fact by fact.
 -- Assumes nothing.
-use Prim.Native.Nat.{ℕ, _≤_}
+use Prim.Native.Nat.{ℕ, _+_, _≤_}
 use mathlib.Core.Path.{_≡_, ap, _∙_}
 use mathlib.Core.Bool.{Bool, true}
 use mathlib.Core.List.{List, [], _∷_}
-use lib.Dec.{leb}
-use lib.ListN.{length, drop}
+use native.Mathlib.Omega.{arith}
+use lib.Dec.{leb, ltb}
+use lib.ListN.{length, take, drop, length-take}
 use borrow.Author.Tests.{leb-true, le-leb}
 use Rattle.choice.specs.Pick.{pick}
 use Rattle.choice.proofs.Picks.{both-true, both-holds}
+use Rattle.octets.specs.Octets.{same}
 use Rattle.uids.specs.Uids.{isUid}
 use Rattle.rules.specs.Bounds.{mostFilms, mostEntries, rootLimit, noneLeft}
+use Rattle.rules.specs.declared.Picture.{Picture}
 use Rattle.rules.specs.declared.Session.{Session}
+use Rattle.rules.specs.declared.ImageBox.{ImageBox}
 use Rattle.rules.specs.declared.Film.{Film}
 use Rattle.rules.specs.declared.Shelf.{Shelf}
 use Rattle.rules.specs.declared.Entry.{Entry}
@@ -19,8 +23,9 @@ use Rattle.rules.specs.declared.Queue.{Queue}
 use Rattle.rules.specs.declared.Numbers.{Numbers}
 use Rattle.rules.specs.declared.Core.{Core}
 use Rattle.rules.specs.Lists.{every}
-use Rattle.rules.specs.Records.{rootOf, filmsOf, entriesOf, isLive, shelved, queued}
-use Rattle.rules.specs.Sound.{between, zeros, flag, numbersSound, sessionSound, sessionBlank, filmSound, filmBlank, shelfSound, entrySound, entryBlank, queueSound, uidsApart, openedSound, coreSound}
+use Rattle.rules.specs.Values.{trimmed, labelAllowed}
+use Rattle.rules.specs.Records.{rootOf, boxCount, boxesOf, filmsOf, entriesOf, isLive, shelved, queued}
+use Rattle.rules.specs.Sound.{between, zeros, flag, labelOf, nameSound, numbersSound, sessionSound, sessionBlank, layoutSound, boxSound, boxBlank, filmSound, filmBlank, shelfSound, entrySound, entryBlank, queueSound, uidsApart, openedSound, coreSound}
 use Rattle.promises.proofs.ListLaws.{all-true, all-holds, films-behind, entries-behind, films-shelved, entries-queued}
 
 pub between-true : (low high n : ℕ) → between low high n ≡ true → (low ≤ n) × (n ≤ high)
@@ -166,3 +171,145 @@ queued-sound n entries h e =
       entries = ap (every (entrySound n)) (entries-queued entries) ∙ e;
       behind = entries-behind entries;
     }
+
+-- how many films there may be
+abbrev pub filmRoom : Session → ℕ
+filmRoom s = pick (isLive s) mostFilms 0
+
+pub films-few : (n : Numbers) (s : Session) (shelf : Shelf) → shelfSound n s shelf ≡ true → length (filmsOf shelf) ≤ filmRoom s
+unfolding filmsOf
+films-few n s shelf e = let c = leb-true (shelf .count) (filmRoom s) (shelf-facts n s shelf e .count) in simp length-take (omega arith)
+
+pub entries-few : (n : Numbers) (q : Queue) → queueSound n q ≡ true → length (entriesOf q) ≤ mostEntries
+unfolding entriesOf
+entries-few n q e = let c = leb-true (q .count) mostEntries (queue-facts n q e .count) in simp length-take (omega arith)
+
+-- Next numbers are at least 1.
+
+pub record Counted (n : Numbers) : Type 0 where
+  pub serials : 1 ≤ n .serial
+  pub pictures : 1 ≤ n .picture
+
+pub counted : (n : Numbers) → numbersSound n ≡ true → Counted n
+counted n e =
+    let f = numbers-facts n e in
+    record { serials = between-true 1 noneLeft (n .serial) (f .serial) .0; pictures = between-true 1 noneLeft (n .picture) (f .picture) .0 }
+
+-- A session.
+
+pub record LabelFacts (used : ℕ) (label : List ℕ) : Type 0 where
+  pub short : leb used 64 ≡ true
+  pub allowed : labelAllowed (take used label) ≡ true
+  pub bare : same (trimmed (take used label)) (take used label) ≡ true
+  pub behind : zeros (drop used label) ≡ true
+
+abbrev sessionTests : Numbers → Session → List Bool
+sessionTests n s =
+    nameSound n (s .name)
+    ∷ between 1 99 (s .copies)
+    ∷ leb (s .priority) 2
+    ∷ leb (s .medium) 2
+    ∷ leb (s .destination) 1
+    ∷ leb (s .used) 64
+    ∷ labelAllowed (labelOf s)
+    ∷ same (trimmed (labelOf s)) (labelOf s)
+    ∷ zeros (drop (s .used) (s .label))
+    ∷ []
+
+-- all but the name
+pub record ValueFacts (s : Session) : Type 0 where
+  pub copies : between 1 99 (s .copies) ≡ true
+  pub priority : leb (s .priority) 2 ≡ true
+  pub medium : leb (s .medium) 2 ≡ true
+  pub destination : leb (s .destination) 1 ≡ true
+  pub label : LabelFacts (s .used) (s .label)
+
+pub session-facts : (n : Numbers) (s : Session) → sessionSound n s ≡ true → (nameSound n (s .name) ≡ true) × ValueFacts s
+session-facts n s e =
+    let t = all-true (sessionTests n s) e in (
+      t .0,
+      record {
+        copies = t .1 .0;
+        priority = t .1 .1 .0;
+        medium = t .1 .1 .1 .0;
+        destination = t .1 .1 .1 .1 .0;
+        label = record {
+          short = t .1 .1 .1 .1 .1 .0;
+          allowed = t .1 .1 .1 .1 .1 .1 .0;
+          bare = t .1 .1 .1 .1 .1 .1 .1 .0;
+          behind = t .1 .1 .1 .1 .1 .1 .1 .1 .0;
+        };
+      },
+    )
+
+pub session-sound : (n : Numbers) (s : Session) → nameSound n (s .name) ≡ true → ValueFacts s → sessionSound n s ≡ true
+session-sound n s e f =
+    all-holds (sessionTests n s)
+    (e, (f .copies, (f .priority, (f .medium, (f .destination, (f .label .short, (f .label .allowed, (f .label .bare, (f .label .behind, tt)))))))))
+
+-- the session of the records, where it is live
+pub live-facts : (n : Numbers) (s : Session) → pick (isLive s) (sessionSound n s) (sessionBlank s) ≡ true → isLive s ≡ true → (nameSound n (s .name) ≡ true) × ValueFacts s
+live-facts n s e l = session-facts n s (rw l at e)
+
+-- A film and its boxes.
+
+abbrev boxTests : ℕ → Numbers → ImageBox → List Bool
+boxTests boxes n b = between 1 boxes (b .position) ∷ flag (b .polarity) ∷ ltb (b .picture .0) (n .picture) ∷ []
+
+abbrev filmTests : Numbers → Film → List Bool
+filmTests n f =
+    nameSound n (f .name)
+    ∷ layoutSound (f .layout)
+    ∷ flag (f .orientation)
+    ∷ leb (f .magnification) 3
+    ∷ leb 1 (f .first .0)
+    ∷ leb (f .first .0 + boxCount (f .layout)) (n .serial)
+    ∷ every (boxSound (boxCount (f .layout)) n) (boxesOf f)
+    ∷ every boxBlank (drop (boxCount (f .layout)) (f .boxes))
+    ∷ []
+
+pub record FilmFacts (n : Numbers) (f : Film) : Type 0 where
+  pub name : nameSound n (f .name) ≡ true
+  pub layout : layoutSound (f .layout) ≡ true
+  pub orientation : flag (f .orientation) ≡ true
+  pub magnification : leb (f .magnification) 3 ≡ true
+  pub first : leb 1 (f .first .0) ≡ true
+  pub last : leb (f .first .0 + boxCount (f .layout)) (n .serial) ≡ true
+  pub boxes : every (boxSound (boxCount (f .layout)) n) (boxesOf f) ≡ true
+  pub behind : every boxBlank (drop (boxCount (f .layout)) (f .boxes)) ≡ true
+
+pub film-facts : (n : Numbers) (f : Film) → filmSound n f ≡ true → FilmFacts n f
+unfolding filmSound
+film-facts n f e =
+    let t = all-true (filmTests n f) e in
+    record {
+      name = t .0;
+      layout = t .1 .0;
+      orientation = t .1 .1 .0;
+      magnification = t .1 .1 .1 .0;
+      first = t .1 .1 .1 .1 .0;
+      last = t .1 .1 .1 .1 .1 .0;
+      boxes = t .1 .1 .1 .1 .1 .1 .0;
+      behind = t .1 .1 .1 .1 .1 .1 .1 .0;
+    }
+
+pub film-sound : (n : Numbers) (f : Film) → FilmFacts n f → filmSound n f ≡ true
+unfolding filmSound
+film-sound n f t =
+    all-holds (filmTests n f)
+    (t .name, (t .layout, (t .orientation, (t .magnification, (t .first, (t .last, (t .boxes, (t .behind, tt))))))))
+
+pub box-facts : (boxes : ℕ) (n : Numbers) (b : ImageBox) → boxSound boxes n b ≡ true → (between 1 boxes (b .position) ≡ true) × (flag (b .polarity) ≡ true) × (ltb (b .picture .0) (n .picture) ≡ true)
+box-facts boxes n b e = let t = all-true (boxTests boxes n b) e in (t .0, t .1 .0, t .1 .1 .0)
+
+pub box-sound : (boxes : ℕ) (n : Numbers) (b : ImageBox) → between 1 boxes (b .position) ≡ true → flag (b .polarity) ≡ true → ltb (b .picture .0) (n .picture) ≡ true → boxSound boxes n b ≡ true
+box-sound boxes n b e f g = all-holds (boxTests boxes n b) (e, (f, (g, tt)))
+
+-- An entry.
+
+abbrev pub entryTests : Numbers → Entry → List Bool
+entryTests n e =
+    every (λ (p : Picture). ltb (p .0) (n .picture)) (e .pictures)
+    ∷ between 1 99 (e .copies)
+    ∷ nameSound n (e .film)
+    ∷ []

@@ -5,13 +5,10 @@ use mathlib.Core.Path.{_≡_}
 use mathlib.Core.Bool.{true}
 use mathlib.Core.List.{List, [], _∷_}
 use native.Mathlib.Omega.{arith}
-use lib.Dec.{eqb, leb}
+use lib.Dec.{eqb}
 use lib.ListN.{length, getD, take, length-take}
-use borrow.Author.Tests.{leb-true, eqb-true}
-use Rattle.choice.proofs.Picks.{both-true}
+use borrow.Author.Tests.{eqb-true}
 use Rattle.rules.specs.declared.Layout.{Layout}
-use Rattle.rules.specs.declared.Film.{Film}
-use Rattle.rules.specs.declared.Numbers.{Numbers}
 use Rattle.rules.specs.declared.Core.{Core}
 use Rattle.rules.specs.Lists.{every, sum}
 use Rattle.rules.specs.Records.{boxCount, noBox, noFilm, filmsOf, theBox, named}
@@ -19,7 +16,7 @@ use Rattle.rules.specs.Attributes.{Listing, imageIn, isFill}
 use Rattle.rules.specs.Effects.{filmAt, boxSet}
 use Rattle.rules.specs.Sound.{layoutSound, filmSound, coreSound}
 use Rattle.promises.proofs.ListLaws.{all-true, every-at, every-parts}
-use Rattle.promises.proofs.Films.{rules-of, films-of}
+use Rattle.promises.proofs.Facts.{between-true, core-facts, shelf-facts, film-facts}
 use Rattle.promises.proofs.Places.{box-there}
 use Rattle.promises.proofs.Numbers.{box-picture}
 
@@ -37,21 +34,17 @@ pub boxes-most : (l : Layout) → layoutSound l ≡ true → boxCount l ≤ 36
 unfolding layoutSound boxCount
 boxes-most l e =
     let h = all-true _ e in
-    let lines = leb-true (l .lines) 6 (both-true (leb 1 (l .lines)) (leb (l .lines) 6) (h .0) .1) in
-    let columns = leb-true (getD (l .counts) 0 0) 6 (both-true (leb 1 (getD (l .counts) 0 0)) (leb (getD (l .counts) 0 0) 6) (h .1 .0) .1) in
+    let lines = between-true 1 6 (l .lines) (h .0) .1 in
+    let columns = between-true 1 6 (getD (l .counts) 0 0) (h .1 .0) .1 in
     let s = sum-most (getD (l .counts) 0 0) (take (l .lines) (l .counts)) columns (h .1 .1 .0) in
     let n = length-take (l .lines) (l .counts) in
     omega arith
-
-film-layout : (n : Numbers) (f : Film) → filmSound n f ≡ true → layoutSound (f .layout) ≡ true
-unfolding filmSound
-film-layout n f e = all-true _ e .1 .0
 
 -- the box that a UID names, after an image filled it
 pub filled-picture : (k : Core) (uid : List ℕ) (i j : ℕ) (l : Listing) → coreSound k ≡ true → length (filmAt k i .boxes) ≡ 36 → named k uid ≡ theBox i j → isFill (imageIn l) ≡ true → getD (filmAt (boxSet k i j l) i .boxes) j noBox .picture .0 ≡ k .numbers .picture
 filled-picture k uid i j l e room b fill =
     let t = box-there k uid i j b in
-    let film = every-at (filmSound (k .numbers)) (filmsOf (k .shelf)) i noFilm (films-of (k .numbers) (k .session) (k .shelf) (rules-of k e .shelf) .each) (t .film) in
-    let most = boxes-most (filmAt k i .layout) (film-layout (k .numbers) (filmAt k i) film) in
+    let film = every-at (filmSound (k .numbers)) (filmsOf (k .shelf)) i noFilm (shelf-facts (k .numbers) (k .session) (k .shelf) (core-facts k e .shelf) .films) (t .film) in
+    let most = boxes-most (filmAt k i .layout) (film-facts (k .numbers) (filmAt k i) film .layout) in
     let place = t .box in
     box-picture k i j l fill (t .film) (omega arith)

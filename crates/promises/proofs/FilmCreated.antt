@@ -1,14 +1,14 @@
 -- The rules of the records are kept where a film is created.
 -- Assumes nothing.
 use Prim.Native.Nat.{ℕ, _+_, _-_, _≤_}
-use mathlib.Core.Path.{_≡_, refl, _∙_}
+use mathlib.Core.Path.{_≡_, refl, sym, _∙_}
 use mathlib.Core.Bool.{Bool, true, false}
 use mathlib.Core.List.{List, [], _∷_, _++_, map}
 use native.Mathlib.Omega.{arith}
-use lib.Dec.{eqb, leb}
+use lib.Dec.{eqb}
 use lib.ListN.{length, replicate, length-append, length-map}
-use lib.Seq.{take-append-seam, take-at, drop-at}
-use borrow.Author.Tests.{ltb-false, leb-true, le-leb, eqb-false}
+use lib.Seq.{take-append-seam}
+use borrow.Author.Tests.{leb-true, le-leb, eqb-false}
 use Rattle.choice.specs.Pick.{pick, both, not}
 use Rattle.choice.proofs.Picks.{Kept, pick-cases, both-true, both-holds, both-second, either-false, not-true, clash}
 use Rattle.octets.specs.Octets.{same}
@@ -18,21 +18,21 @@ use Rattle.rules.specs.declared.Session.{Session}
 use Rattle.rules.specs.declared.Film.{Film}
 use Rattle.rules.specs.declared.Numbers.{Numbers}
 use Rattle.rules.specs.declared.Core.{Core}
-use Rattle.rules.specs.Bounds.{mostBoxes, noneLeft}
+use Rattle.rules.specs.Bounds.{mostBoxes}
 use Rattle.rules.specs.Lists.{every, any, apart, from, filledTo}
 use Rattle.rules.specs.Values.{blank, countsIn}
-use Rattle.rules.specs.Records.{serial, madeName, sentName, rootOf, uidOf, boxCount, boxesOf, noBox, isLive, filmsOf, filmNamed, boxNamed, nobody, theSession, theFilm, theBox, named, serialsUsed}
-use Rattle.rules.specs.Attributes.{Listing, look, valueOf, is, wrong, fine, mandatory, reference, optionalFilm, filmCreateStandings, filmWith, layoutIn}
-use Rattle.rules.specs.Effects.{ownSerials, nameFrom, newBox, newFilm, filmSerials, filmCreated}
+use Rattle.rules.specs.Records.{serial, madeName, sentName, uidOf, boxCount, boxesOf, noBox, isLive, filmsOf, filmNamed, boxNamed, nobody, theSession, theFilm, theBox, named, serialsUsed}
+use Rattle.rules.specs.Attributes.{Listing, look, valueOf, fine, mandatory, reference, optionalFilm, filmCreateStandings, filmWith, layoutIn}
+use Rattle.rules.specs.Effects.{tooFewSerials, ownSerials, nameFrom, newBox, newFilm, filmSerials, filmCreated}
 use Rattle.rules.specs.Checks.{isNobody, createRules, newFilmRules, sentUid}
-use Rattle.rules.specs.Sound.{numbersSound, nameSound, sessionSound, sessionBlank, layoutSound, boxBlank, filmSound, Serials, overlap, ownSerial, serialsOf, sentText, sameText, uidsApart, coreSound}
-use Rattle.promises.proofs.ListLaws.{films-shelved, all-true, all-holds, every-so, every-append, every-nil, every-one, every-cons, every-parts, every-replicate, apart-one, apart-append, map-append, from-length}
-use Rattle.promises.proofs.Codes.{any-behind}
-use Rattle.promises.proofs.Standings.{AllFine, kept-fine, fine-front, mandatory-fine, reference-live}
-use Rattle.promises.proofs.Layouts.{counts-grid, layout-sound, new-boxes, between-holds}
-use Rattle.promises.proofs.Later.{Counted, counted, film-name-sound, Later, session-later, film-later, queue-later}
+use Rattle.rules.specs.Sound.{nameSound, layoutSound, boxBlank, filmSound, Serials, overlap, ownSerial, serialsOf, sentText, sameText, uidsApart, coreSound}
+use Rattle.promises.proofs.ListLaws.{films-shelved, every-append, every-nil, every-one, every-cons, every-parts, every-replicate, apart-one, apart-append, map-append, from-length, take-filled, drop-filled}
+use Rattle.promises.proofs.Facts.{core-facts, core-sound, Counted, counted, live-facts, shelf-facts, shelved-sound, filmRoom, films-few, film-facts, film-sound}
+use Rattle.promises.proofs.Later.{session-later, films-later, queue-later, serials-sound, serials-later}
+use Rattle.promises.proofs.Standings.{AllFine, kept-fine, fine-front, fine-behind, mandatory-fine, reference-live}
+use Rattle.promises.proofs.Layouts.{counts-grid, layout-sound, new-boxes}
 use Rattle.promises.proofs.Names.{Sendable, sendable, name-from-sound, apart-later, apart-none, own-below, text-none, text-free}
-use Rattle.promises.proofs.Films.{rules-of, of-rules, filmRoom, films-of, shelf-of, film-with-sound}
+use Rattle.promises.proofs.Films.{film-with-sound}
 
 -- The film.
 
@@ -50,17 +50,6 @@ baseFilm k sent l = record {
 abbrev pub after : Core → List ℕ → Listing → Numbers
 after k sent l = serialsUsed (filmSerials sent l) (k .numbers)
 
-after-later : (k : Core) (sent : List ℕ) (l : Listing) → Later (k .numbers) (after k sent l)
-unfolding rootOf
-after-later k sent l = record { root = refl; serials = omega arith; pictures = omega arith }
-
-after-sound : (k : Core) (sent : List ℕ) (l : Listing) → numbersSound (k .numbers) ≡ true → k .numbers .serial + filmSerials sent l ≤ noneLeft → numbersSound (after k sent l) ≡ true
-unfolding numbersSound rootOf
-after-sound k sent l e g =
-    let h = all-true _ e in
-    let s = leb-true 1 (k .numbers .serial) (both-true (leb 1 (k .numbers .serial)) (leb (k .numbers .serial) noneLeft) (h .1 .1 .1 .0) .0) in
-    all-holds _ (h .0, (h .1 .0, (h .1 .1 .0, (between-holds 1 noneLeft (k .numbers .serial + filmSerials sent l) (omega arith) g, h .1 .1 .1 .1))))
-
 layout-in-sound : (l : Listing) → mandatory blank (λ v. not (eqb (length (countsIn v)) 0)) l (look l 0x2010_0010) ≡ fine → layoutSound (layoutIn l) ≡ true
 unfolding layoutIn
 layout-in-sound l e =
@@ -73,42 +62,26 @@ unfolding every
 blank-box = refl
 
 base-sound : (k : Core) (sent : List ℕ) (l : Listing) → Sendable k sent → Counted (k .numbers) → layoutSound (layoutIn l) ≡ true → filmSound (after k sent l) (baseFilm k sent l) ≡ true
-unfolding filmSound boxesOf
+unfolding boxesOf
 base-sound k sent l s c y =
     let n = k .numbers in
     let m = after k sent l in
     let count = boxCount (layoutIn l) in
     let xs = map newBox (from 1 count) in
-    let zs = replicate (mostBoxes - length xs) noBox in
     let size : length xs ≡ count = length-map (from 1 count) newBox ∙ from-length 1 count in
     let c1 = c .serials in
-    all-holds _ (
-      name-from-sound k sent m s (after-later k sent l .root) (c .serials) (omega arith),
-      (
-        y,
-        (
-          refl,
-          (
-            refl,
-            (
-              le-leb 1 (n .serial + ownSerials sent) (omega arith),
-              (
-                le-leb (n .serial + ownSerials sent + count) (m .serial) (omega arith),
-                (
-                  rw (take-at xs zs count size) (new-boxes m count (c .pictures) 1 count (omega arith) (omega arith)),
-                  (
-                    rw (drop-at xs zs count size) (every-replicate boxBlank (mostBoxes - length xs) noBox blank-box),
-                    tt,
-                  ),
-                ),
-              ),
-            ),
-          ),
-        ),
-      ),
-    )
+    film-sound m (baseFilm k sent l) record {
+      name = name-from-sound k sent m s (serials-later n (filmSerials sent l) .root) (c .serials) (omega arith);
+      layout = y;
+      orientation = refl;
+      magnification = refl;
+      first = le-leb 1 (n .serial + ownSerials sent) (omega arith);
+      last = le-leb (n .serial + ownSerials sent + count) (m .serial) (omega arith);
+      boxes = rw (take-filled mostBoxes noBox xs count (sym size)) (new-boxes m count (c .pictures) 1 count (omega arith) (omega arith));
+      behind = rw (drop-filled mostBoxes noBox xs count (sym size)) (every-replicate boxBlank (mostBoxes - length xs) noBox blank-box);
+    }
 
-pub new-film-sound : (k : Core) (sent : List ℕ) (l : Listing) → Sendable k sent → Counted (k .numbers) → layoutSound (layoutIn l) ≡ true → any (is wrong) (optionalFilm l) ≡ false → filmSound (after k sent l) (newFilm k sent l) ≡ true
+pub new-film-sound : (k : Core) (sent : List ℕ) (l : Listing) → Sendable k sent → Counted (k .numbers) → layoutSound (layoutIn l) ≡ true → AllFine (optionalFilm l) → filmSound (after k sent l) (newFilm k sent l) ≡ true
 unfolding newFilm
 new-film-sound k sent l s c y w = film-with-sound (after k sent l) l (baseFilm k sent l) w (base-sound k sent l s c y)
 
@@ -121,11 +94,10 @@ serials-append (x ∷ xs) ys = rw (serials-append xs ys)
 
 module _ (n : Numbers) (P : Serials → Bool) (low : (a : Serials) → a .from + a .count ≤ n .serial → P a ≡ true) where
   film-serials : (f : Film) → filmSound n f ≡ true → (P (ownSerial (f .name)) ≡ true) × (P (record { from = f .first .0; count = boxCount (f .layout) }) ≡ true)
-  unfolding filmSound
   film-serials f e =
-      let h = all-true _ e in (
-        low (ownSerial (f .name)) (own-below n (f .name) (h .0)),
-        low (record { from = f .first .0; count = boxCount (f .layout) }) (leb-true (f .first .0 + boxCount (f .layout)) (n .serial) (h .1 .1 .1 .1 .1 .0)),
+      let h = film-facts n f e in (
+        low (ownSerial (f .name)) (own-below n (f .name) (h .name)),
+        low (record { from = f .first .0; count = boxCount (f .layout) }) (leb-true (f .first .0 + boxCount (f .layout)) (n .serial) (h .last)),
       )
 
   -- the serials of films are used up
@@ -207,7 +179,7 @@ module _ (n : Numbers) (sent : List ℕ) where
   texts-low (x ∷ films) e f =
       let h = every-parts (filmSound n) x films e in
       every-cons (λ a. every (λ b. pick (sameText a b) false true) (sentText (nameFrom n sent) ∷ [])) (sentText (x .name)) (map (λ (f : Film). sentText (f .name)) films)
-      (text-apart (x .name) (film-name-sound n x (h .0)) (λ z. either-false (filmNamed n sent x) (any (filmNamed n sent) films) (f z) .0))
+      (text-apart (x .name) (film-facts n x (h .0) .name) (λ z. either-false (filmNamed n sent x) (any (filmNamed n sent) films) (f z) .0))
       (texts-low films (h .1) (λ z. either-false (filmNamed n sent x) (any (filmNamed n sent) films) (f z) .1))
 
   texts-apart : (s : Session) (films : List Film) (new : Film) → new .name ≡ nameFrom n sent → nameSound n (s .name) ≡ true → every (filmSound n) films ≡ true
@@ -238,9 +210,9 @@ nobody-named k uid e = nobody-picked (both (isLive (k .session)) (same uid (uidO
 record Checked (k : Core) (sent : List ℕ) (l : Listing) : Type 0 where
   live : isLive (k .session) ≡ true
   layout : layoutSound (layoutIn l) ≡ true
-  optional : any (is wrong) (optionalFilm l) ≡ false
+  optional : AllFine (optionalFilm l)
   few : length (filmsOf (k .shelf)) ≡ 8 → ⊥
-  enough : k .numbers .serial + filmSerials sent l ≤ noneLeft
+  enough : tooFewSerials (k .numbers) (filmSerials sent l) ≡ false
 
 checked : (k : Core) (sent : List ℕ) (l : Listing) → Kept (newFilmRules k sent l) → Checked k sent l
 unfolding filmCreateStandings
@@ -251,26 +223,23 @@ checked k sent l h =
     record {
       live = reference-live k l (look l 0x2010_0500) (fine-front refers (optionalFilm l) (all-fine .1));
       layout = layout-in-sound l (all-fine .0);
-      optional = any-behind (is wrong) (format ∷ refers) (optionalFilm l) (h .1 .1 .0);
+      optional = fine-behind refers (optionalFilm l) (all-fine .1);
       few = eqb-false (length (filmsOf (k .shelf))) 8 (h .1 .1 .1 .0);
-      enough = ltb-false noneLeft (k .numbers .serial + filmSerials sent l) (h .1 .1 .1 .1 .0);
+      enough = h .1 .1 .1 .1 .0;
     }
 
 new-name : (k : Core) (sent : List ℕ) (l : Listing) → newFilm k sent l .name ≡ nameFrom (k .numbers) sent
 unfolding newFilm filmWith
 new-name k sent l = refl
 
-live-name : (n : Numbers) (s : Session) → pick (isLive s) (sessionSound n s) (sessionBlank s) ≡ true → isLive s ≡ true → nameSound n (s .name) ≡ true
-live-name n s e l = all-true _ (rw l at e) .0
-
 new-uids : (k : Core) (sent : List ℕ) (l : Listing) → coreSound k ≡ true → Sendable k sent → isLive (k .session) ≡ true → uidsApart (k .session) (filmsOf (k .shelf) ++ (newFilm k sent l ∷ [])) ≡ true
 unfolding uidsApart
 new-uids k sent l e s live =
-    let r = rules-of k e in
+    let r = core-facts k e in
     let n = k .numbers in
     let films = filmsOf (k .shelf) in
-    let each = films-of n (k .session) (k .shelf) (r .shelf) .each in
-    let name = live-name n (k .session) (r .session) live in
+    let each = shelf-facts n (k .session) (k .shelf) (r .shelf) .films in
+    let name = live-facts n (k .session) (r .session) live .0 in
     let b = both-true (apart overlap (ownSerial (k .session .name) ∷ serialsOf films)) (apart sameText (sentText (k .session .name) ∷ map (λ (f : Film). sentText (f .name)) films)) (r .uids) in
     both-holds (apart overlap (ownSerial (k .session .name) ∷ serialsOf (films ++ (newFilm k sent l ∷ [])))) (apart sameText (sentText (k .session .name) ∷ map (λ (f : Film). sentText (f .name)) (films ++ (newFilm k sent l ∷ []))))
     (serials-apart k sent l (k .session) films name each (b .0))
@@ -284,30 +253,28 @@ pub film-created-sound : (k : Core) (sent : List ℕ) (l : Listing) → coreSoun
 unfolding filmCreated
 film-created-sound k sent l e s h =
     let c = checked k sent l h in
-    let r = rules-of k e in
+    let r = core-facts k e in
     let n = k .numbers in
     let m = after k sent l in
-    let later = after-later k sent l in
+    let later = serials-later (k .numbers) (filmSerials sent l) in
     let films = filmsOf (k .shelf) in
     let new = newFilm k sent l in
-    let old = films-of n (k .session) (k .shelf) (r .shelf) in
     let room : filmRoom (k .session) ≡ 8 = rw (c .live) in
-    let few = old .few in
+    let few = films-few n (k .session) (k .shelf) (r .shelf) in
     let other = c .few in
     let all-new = films ++ (new ∷ []) in
-    of-rules _
-    (record {
-      numbers = after-sound k sent l (r .numbers) (c .enough);
-      flagged = r .flagged;
+    core-sound _ record {
+      numbers = serials-sound n (filmSerials sent l) (r .numbers) (c .enough);
+      live = r .live;
       session = session-later n m later (k .session) (r .session);
-      shelf = shelf-of m (k .session) all-new (record {
-        few = rw (length-append films (new ∷ []), room) (omega arith);
-        each = every-append (filmSound m) films (new ∷ []) (every-so (filmSound n) (filmSound m) (film-later n m later) films (old .each)) (every-one (filmSound m) new (new-film-sound k sent l s (counted n (r .numbers)) (c .layout) (c .optional)));
-      });
+      shelf =
+          shelved-sound m (k .session) all-new
+          (rw (length-append films (new ∷ []), room) (omega arith))
+          (every-append (filmSound m) films (new ∷ []) (films-later n m later films (shelf-facts n (k .session) (k .shelf) (r .shelf) .films)) (every-one (filmSound m) new (new-film-sound k sent l s (counted n (r .numbers)) (c .layout) (c .optional))));
       queue = queue-later n m later (k .queue) (r .queue);
       uids = rw (films-shelved all-new) (new-uids k sent l e s (c .live));
-      opening = r .opening;
-    })
+      opened = r .opened;
+    }
 
 -- the same, for the UID that a command sends
 pub film-create-sound : (k : Core) (c : List ℕ) (sent : Part) (l : Listing) → coreSound k ≡ true → Kept (createRules k c sent) → Kept (newFilmRules k (sentUid c sent) l) → coreSound (filmCreated k (sentUid c sent) l) ≡ true

@@ -8,7 +8,7 @@ use native.Mathlib.Omega.{arith}
 use lib.Dec.{eqb, leb, ltb}
 use lib.ListN.{length, getD, take, replicate, length-replicate}
 use lib.Seq.{take-append-seam, drop-append-seam}
-use borrow.Author.Tests.{leb-true, le-leb, lt-ltb, eq-eqb}
+use borrow.Author.Tests.{leb-true, lt-ltb, eq-eqb}
 use Rattle.choice.specs.Pick.{pick}
 use Rattle.choice.proofs.Picks.{both-true, both-holds}
 use Rattle.octets.specs.Octets.{same}
@@ -20,6 +20,7 @@ use Rattle.rules.specs.Attributes.{layoutFrom}
 use Rattle.rules.specs.Effects.{newBox}
 use Rattle.rules.specs.Sound.{between, layoutSound, boxSound}
 use Rattle.promises.proofs.ListLaws.{all-holds, every-replicate}
+use Rattle.promises.proofs.Facts.{between-holds}
 
 -- so many lines of so many boxes each
 pub record Grid (counts : List ℕ) : Type 0 where
@@ -58,9 +59,6 @@ counts-picked false counts f h = absurd (h refl)
 pub counts-grid : (v : List ℕ) → (length (countsIn v) ≡ 0 → ⊥) → Grid (countsIn v)
 unfolding countsIn
 counts-grid v h = counts-picked (standard (withoutTrailing v)) _ (standard-grid (withoutTrailing v)) h
-
-pub between-holds : (a b n : ℕ) → a ≤ n → n ≤ b → between a b n ≡ true
-between-holds a b n h g = both-holds (leb a n) (leb n b) (le-leb a n h) (le-leb n b g)
 
 lines-sound : (r c : ℕ) → r ≤ 5 → 1 ≤ c → c ≤ 6 → layoutSound (layoutFrom (replicate (suc r) c)) ≡ true
 unfolding layoutSound

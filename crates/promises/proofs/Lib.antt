@@ -3,7 +3,6 @@ pub mod Packed
 pub mod StrikeOut
 pub mod Fakes
 pub mod Facts
-pub mod Laws
 pub mod Calls
 pub mod Sessions
 pub mod NewSession
@@ -18,7 +17,6 @@ pub mod NewFilm
 pub mod Replies
 pub mod ListLaws
 pub mod Later
-pub mod Codes
 pub mod Layouts
 pub mod Places
 pub mod Decided

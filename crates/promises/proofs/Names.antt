@@ -1,13 +1,12 @@
 -- Names that are new: they keep their rules, and differ from those held.
 -- Assumes nothing.
-use Prim.Native.Nat.{ℕ, _+_, _-_, _<_, _≤_}
+use Prim.Native.Nat.{ℕ, _+_, _<_, _≤_}
 use mathlib.Core.Path.{_≡_, refl}
 use mathlib.Core.Bool.{Bool, true, false}
 use mathlib.Core.List.{List, [], _∷_}
 use native.Mathlib.Omega.{arith}
 use lib.Dec.{eqb, leb, ltb}
-use lib.ListN.{length, take, replicate}
-use lib.Seq.{take-append-seam, drop-append-seam}
+use lib.ListN.{length, take}
 use borrow.Author.Tests.{ltb-true, lt-ltb, le-ltb, leb-true, eqb-true, eqb-false, ne-eqb}
 use Rattle.choice.specs.Pick.{pick, both, either, not}
 use Rattle.choice.proofs.Picks.{Kept, pick-cases, both-true, both-second, either-false, not-false, clash}
@@ -23,8 +22,8 @@ use Rattle.rules.specs.Commands.{uidAt}
 use Rattle.rules.specs.Effects.{ownSerials, nameFrom}
 use Rattle.rules.specs.Checks.{isNobody, isSent, createRules, sentUid}
 use Rattle.rules.specs.Sound.{nameSound, nameBlank, sentSound, madeSound, Serials, overlap, ownSerial, sentText, sameText}
-use Rattle.promises.proofs.ListLaws.{all-true, all-holds, every-replicate}
-use Rattle.promises.proofs.Layouts.{between-holds}
+use Rattle.promises.proofs.ListLaws.{all-true, all-holds, zeros-replicate, take-filled, behind-filled}
+use Rattle.promises.proofs.Facts.{between-holds}
 
 -- What check 6 tells of a UID that is sent; none is sent where it is empty.
 
@@ -50,26 +49,14 @@ made-name-sound : (m : Numbers) (s : ℕ) → 1 ≤ s → s < m .serial → name
 unfolding nameSound
 made-name-sound m s h g =
     rw (ne-eqb s 0 (λ e. omega arith))
-    (all-holds _ (lt-ltb s (m .serial) g, (refl, (every-replicate (λ (b : ℕ). eqb b 0) 64 0 refl, tt))))
+    (all-holds _ (lt-ltb s (m .serial) g, (refl, (zeros-replicate 64, tt))))
 
 sent-name-sound : (m : Numbers) (sent : List ℕ) → (length sent ≡ 0 → ⊥) → isUid sent ≡ true → beginsWith (rootOf m) sent ≡ false → nameSound m (sentName sent) ≡ true
 unfolding nameSound isUid
 sent-name-sound m sent n u b =
-    let z : List ℕ = replicate (64 - length sent) 0 in
+    let front = take-filled 64 0 sent (length sent) refl in
     let short = leb-true (length sent) 64 (both-true (leb (length sent) 64) (components [] sent) u .0) in
-    all-holds _ (
-      between-holds 1 64 (length sent) (omega arith) short,
-      (
-        rw (take-append-seam sent z) u,
-        (
-          rw (take-append-seam sent z, b),
-          (
-            rw (drop-append-seam sent z) (every-replicate (λ (b : ℕ). eqb b 0) (64 - length sent) 0 refl),
-            tt,
-          ),
-        ),
-      ),
-    )
+    all-holds _ (between-holds 1 64 (length sent) (omega arith) short, (rw front u, (rw (front, b), (behind-filled 64 0 sent (λ (c : ℕ). eqb c 0) refl, tt))))
 
 pub name-from-sound : (k : Core) (sent : List ℕ) (m : Numbers) → Sendable k sent → rootOf m ≡ rootOf (k .numbers) → 1 ≤ k .numbers .serial → k .numbers .serial + ownSerials sent ≤ m .serial → nameSound m (nameFrom (k .numbers) sent) ≡ true
 name-from-sound k sent m s r h g =
