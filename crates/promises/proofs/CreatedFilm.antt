@@ -5,7 +5,7 @@ use mathlib.Core.Path.{_≡_, ap, _∙_, subst}
 use mathlib.Core.Bool.{Bool, true}
 use mathlib.Core.List.{List, [], _∷_, map}
 use native.Mathlib.Omega.{arith}
-use lib.ListN.{length, getD, length-map}
+use lib.ListN.{length, getD}
 use Rattle.uids.specs.Uids.{isUid, unpadded, made}
 use Rattle.uids.proofs.Made.{made-short, made-uid}
 use Rattle.elements.specs.Find.{itemsOf}
@@ -17,7 +17,7 @@ use Rattle.rules.specs.Lists.{from}
 use Rattle.rules.specs.Records.{rootOf, boxCount, boxUids}
 use Rattle.rules.specs.Attributes.{valueOf}
 use Rattle.rules.specs.Responses.{filmTree}
-use Rattle.promises.proofs.ListLaws.{from-length}
+use Rattle.promises.proofs.Named.{box-uids-length}
 use Rattle.promises.proofs.Fitting.{AllShort, film-fits}
 use Rattle.promises.proofs.FilmBack.{itemListing, BoxMeans, FilmMeans, box-at, film-means}
 
@@ -38,8 +38,7 @@ module _ (n : Numbers) (f : Film) (h : length (rootOf n) ≤ rootLimit) (few : b
   uids-short = all-made-short (rootOf n) (from (f .first .0) (boxCount (f .layout))) h
 
   pub uids-count : length (boxUids n f) ≡ boxCount (f .layout)
-  unfolding boxUids
-  uids-count = length-map (from (f .first .0) (boxCount (f .layout))) (made (rootOf n)) ∙ from-length (f .first .0) (boxCount (f .layout))
+  uids-count = box-uids-length n f
 
   uids-few : length (boxUids n f) ≤ mostBoxes
   uids-few = omega (arith, uids-count)

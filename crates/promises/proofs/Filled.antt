@@ -17,7 +17,7 @@ use Rattle.rules.specs.Effects.{filmAt, boxSet}
 use Rattle.rules.specs.Sound.{layoutSound, filmSound, coreSound}
 use Rattle.promises.proofs.ListLaws.{all-true, every-at, every-parts}
 use Rattle.promises.proofs.Facts.{between-true, core-facts, shelf-facts, film-facts}
-use Rattle.promises.proofs.Places.{box-there}
+use Rattle.promises.proofs.Named.{named-box}
 use Rattle.promises.proofs.Numbers.{box-picture}
 
 sum-most : (c : ℕ) (xs : List ℕ) → c ≤ 6 → every (eqb c) xs ≡ true → sum xs ≤ 6 * length xs
@@ -43,8 +43,8 @@ boxes-most l e =
 -- the box that a UID names, after an image filled it
 pub filled-picture : (k : Core) (uid : List ℕ) (i j : ℕ) (l : Listing) → coreSound k ≡ true → length (filmAt k i .boxes) ≡ 36 → named k uid ≡ theBox i j → isFill (imageIn l) ≡ true → getD (filmAt (boxSet k i j l) i .boxes) j noBox .picture .0 ≡ k .numbers .picture
 filled-picture k uid i j l e room b fill =
-    let t = box-there k uid i j b in
-    let film = every-at (filmSound (k .numbers)) (filmsOf (k .shelf)) i noFilm (shelf-facts (k .numbers) (k .session) (k .shelf) (core-facts k e .shelf) .films) (t .film) in
+    let t = named-box k uid i j b in
+    let film = every-at (filmSound (k .numbers)) (filmsOf (k .shelf)) i noFilm (shelf-facts (k .numbers) (k .session) (k .shelf) (core-facts k e .shelf) .films) (t .0) in
     let most = boxes-most (filmAt k i .layout) (film-facts (k .numbers) (filmAt k i) film .layout) in
-    let place = t .box in
-    box-picture k i j l fill (t .film) (omega arith)
+    let place = t .1 in
+    box-picture k i j l fill (t .0) (omega arith)

@@ -10,7 +10,7 @@ use lib.ListN.{length, replicate, length-append, length-map}
 use lib.Seq.{take-append-seam}
 use borrow.Author.Tests.{leb-true, le-leb, eqb-false}
 use Rattle.choice.specs.Pick.{pick, both, not}
-use Rattle.choice.proofs.Picks.{Kept, pick-cases, both-true, both-holds, both-second, either-false, not-true, clash}
+use Rattle.choice.proofs.Picks.{Kept, pick-cases, both-true, both-holds, both-second, either-false, not-true}
 use Rattle.octets.specs.Octets.{same}
 use Rattle.headers.specs.declared.Part.{Part}
 use Rattle.rules.specs.declared.Name.{Name}
@@ -21,16 +21,17 @@ use Rattle.rules.specs.declared.Core.{Core}
 use Rattle.rules.specs.Bounds.{mostBoxes}
 use Rattle.rules.specs.Lists.{every, any, apart, from, filledTo}
 use Rattle.rules.specs.Values.{blank, countsIn}
-use Rattle.rules.specs.Records.{serial, madeName, sentName, uidOf, boxCount, boxesOf, noBox, isLive, filmsOf, filmNamed, boxNamed, nobody, theSession, theFilm, theBox, named, serialsUsed}
+use Rattle.rules.specs.Records.{serial, madeName, sentName, uidOf, boxCount, boxesOf, noBox, isLive, filmsOf, filmNamed, serialsUsed}
 use Rattle.rules.specs.Attributes.{Listing, look, valueOf, fine, mandatory, reference, optionalFilm, filmCreateStandings, filmWith, layoutIn}
 use Rattle.rules.specs.Effects.{tooFewSerials, ownSerials, nameFrom, newBox, newFilm, filmSerials, filmCreated}
-use Rattle.rules.specs.Checks.{isNobody, createRules, newFilmRules, sentUid}
+use Rattle.rules.specs.Checks.{createRules, newFilmRules, sentUid}
 use Rattle.rules.specs.Sound.{nameSound, layoutSound, boxBlank, filmSound, Serials, overlap, ownSerial, serialsOf, sentText, sameText, uidsApart, coreSound}
 use Rattle.promises.proofs.ListLaws.{films-shelved, every-append, every-nil, every-one, every-cons, every-parts, every-replicate, apart-one, apart-append, map-append, from-length, take-filled, drop-filled}
 use Rattle.promises.proofs.Facts.{core-facts, core-sound, Counted, counted, live-facts, shelf-facts, shelved-sound, filmRoom, films-few, film-facts, film-sound}
 use Rattle.promises.proofs.Later.{session-later, films-later, queue-later, serials-sound, serials-later}
 use Rattle.promises.proofs.Standings.{AllFine, kept-fine, fine-front, fine-behind, mandatory-fine, reference-live}
 use Rattle.promises.proofs.Layouts.{counts-grid, layout-sound, new-boxes}
+use Rattle.promises.proofs.Named.{nobody-named}
 use Rattle.promises.proofs.Names.{Sendable, sendable, name-from-sound, apart-later, apart-none, own-below, text-none, text-free}
 use Rattle.promises.proofs.Films.{film-with-sound}
 
@@ -192,17 +193,6 @@ module _ (n : Numbers) (sent : List ℕ) where
       rw (map-append (λ (f : Film). sentText (f .name)) films (new ∷ []), q)
       (apart-append sameText (sentText (s .name) ∷ map (λ (f : Film). sentText (f .name)) films) t a (apart-one sameText (sentText (nameFrom n sent)))
       (every-cons P (sentText (s .name)) (map (λ (f : Film). sentText (f .name)) films) (text-apart (s .name) e g) (texts-low films f h)))
-
--- A UID that names nobody.
-
-nobody-picked : (s f b : Bool) (p x y : ℕ) → isNobody (pick s theSession (pick f (theFilm p) (pick b (theBox x y) nobody))) ≡ true → (s ≡ false) × (f ≡ false)
-nobody-picked true f b p x y e = absurd (clash refl e)
-nobody-picked false true b p x y e = absurd (clash refl e)
-nobody-picked false false b p x y e = (refl, refl)
-
-nobody-named : (k : Core) (uid : List ℕ) → isNobody (named k uid) ≡ true → (both (isLive (k .session)) (same uid (uidOf (k .numbers) (k .session .name))) ≡ false) × (any (filmNamed (k .numbers) uid) (filmsOf (k .shelf)) ≡ false)
-unfolding named
-nobody-named k uid e = nobody-picked (both (isLive (k .session)) (same uid (uidOf (k .numbers) (k .session .name)))) (any (filmNamed (k .numbers) uid) (filmsOf (k .shelf))) (any (boxNamed (k .numbers) uid) (filmsOf (k .shelf))) _ _ _ e
 
 -- Creating.
 

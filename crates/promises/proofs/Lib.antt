@@ -18,7 +18,6 @@ pub mod Replies
 pub mod ListLaws
 pub mod Later
 pub mod Layouts
-pub mod Places
 pub mod Decided
 pub mod Steps
 pub mod Names
@@ -30,5 +29,4 @@ pub mod Tickets
 pub mod Numbers
 pub mod Filled
 pub mod Inputs
-pub mod Keeping
 pub mod Kept
