@@ -1,5 +1,5 @@
 -- The data set of a created film with the UIDs that were made for its boxes: it fits its buffer, and its i-th item names the i-th of them.
--- Assumes nothing.
+-- Assumes nothing but that the root has at most 40 characters.
 use Prim.Native.Nat.{ℕ, zero, suc, _+_, _<_, _≤_}
 use mathlib.Core.Path.{_≡_, ap, _∙_, subst}
 use mathlib.Core.Bool.{Bool, true}
@@ -12,11 +12,14 @@ use Rattle.elements.specs.Find.{itemsOf}
 use Rattle.writing.specs.Bytes.{written}
 use Rattle.rules.specs.declared.Film.{Film}
 use Rattle.rules.specs.declared.Numbers.{Numbers}
+use Rattle.rules.specs.declared.Core.{Core}
 use Rattle.rules.specs.Bounds.{dataRoom, mostBoxes, rootLimit, noneLeft}
 use Rattle.rules.specs.Lists.{from}
 use Rattle.rules.specs.Records.{rootOf, boxCount, boxUids}
-use Rattle.rules.specs.Attributes.{valueOf}
+use Rattle.rules.specs.Attributes.{Listing, valueOf, filmWith}
+use Rattle.rules.specs.Effects.{newFilm}
 use Rattle.rules.specs.Responses.{filmTree}
+use Rattle.promises.proofs.Layouts.{layout-few}
 use Rattle.promises.proofs.Named.{box-uids-length}
 use Rattle.promises.proofs.Fitting.{AllShort, film-fits}
 use Rattle.promises.proofs.FilmBack.{itemListing, BoxMeans, FilmMeans, box-at, film-means}
@@ -71,3 +74,19 @@ module _ (n : Numbers) (f : Film) (h : length (rootOf n) ≤ rootLimit) (few : b
       pub created-uid : isUid (rootOf n) ≡ true → f .first .0 + boxCount (f .layout) ≤ noneLeft
           → unpadded (valueOf (itemListing (written explicit (filmTree (boxUids n f))) explicit (created-box .list)) 0x0008_1155) ≡ made (rootOf n) (f .first .0 + i)
       created-uid u l = created-box .instance (made-uid (rootOf n) (f .first .0 + i) u h (omega arith))
+
+-- A new film has at most 36 boxes.
+
+module _ (k : Core) (sent : List ℕ) (l : Listing) where
+  pub new-film-few : boxCount (newFilm k sent l .layout) ≤ mostBoxes
+  unfolding newFilm filmWith
+  new-film-few = layout-few l
+
+  module _ (h : length (rootOf (k .numbers)) ≤ rootLimit) (explicit : Bool) where
+    -- the data set of a new film fits its buffer
+    pub new-film-fits : length (written explicit (filmTree (boxUids (k .numbers) (newFilm k sent l)))) ≤ dataRoom
+    new-film-fits = created-fits (k .numbers) (newFilm k sent l) h new-film-few explicit
+
+    -- and is read back
+    pub new-film-means : FilmMeans (written explicit (filmTree (boxUids (k .numbers) (newFilm k sent l)))) explicit (boxUids (k .numbers) (newFilm k sent l))
+    new-film-means = created-means (k .numbers) (newFilm k sent l) h new-film-few explicit

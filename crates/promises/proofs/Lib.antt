@@ -13,7 +13,6 @@ pub mod Fitting
 pub mod ReadBack
 pub mod FilmBack
 pub mod CreatedFilm
-pub mod NewFilm
 pub mod Replies
 pub mod ListLaws
 pub mod Later
@@ -27,6 +26,5 @@ pub mod Printing
 pub mod FilmCreated
 pub mod Tickets
 pub mod Numbers
-pub mod Filled
 pub mod Inputs
 pub mod Kept

@@ -25,6 +25,11 @@ use Rattle.rules.specs.Sound.{nameSound, nameBlank, sentSound, madeSound, Seria
 use Rattle.promises.proofs.ListLaws.{all-true, all-holds, zeros-replicate, take-filled, behind-filled}
 use Rattle.promises.proofs.Facts.{between-holds}
 
+-- a UID has at most 64 characters
+pub uid-short : (u : List ℕ) → isUid u ≡ true → length u ≤ 64
+unfolding isUid
+uid-short u e = leb-true (length u) 64 (both-true (leb (length u) 64) (components [] u) e .0)
+
 -- What check 6 tells of a UID that is sent; none is sent where it is empty.
 
 pub record Sendable (k : Core) (sent : List ℕ) : Type 0 where
@@ -43,6 +48,13 @@ sendable k c sent h =
     record { valid = λ x. not-false (isUid u) (a .0); foreign = λ x. a .1; free = λ x. not-false (isNobody (named k u)) b })
     (λ e. record { valid = λ x. absurd (x refl); foreign = λ x. absurd (x refl); free = λ x. absurd (x refl) })
 
+pub sent-short : (k : Core) (sent : List ℕ) → Sendable k sent → length sent ≤ 64
+sent-short k sent s = short (eqb (length sent) 0) refl
+  where
+    short : (none : Bool) → eqb (length sent) 0 ≡ none → length sent ≤ 64
+    short true e = let z = eqb-true (length sent) 0 e in omega arith
+    short false e = uid-short sent (s .valid (eqb-false (length sent) 0 e))
+
 -- Names keep their rules.
 
 made-name-sound : (m : Numbers) (s : ℕ) → 1 ≤ s → s < m .serial → nameSound m (madeName s) ≡ true
@@ -52,11 +64,10 @@ made-name-sound m s h g =
     (all-holds _ (lt-ltb s (m .serial) g, (refl, (zeros-replicate 64, tt))))
 
 sent-name-sound : (m : Numbers) (sent : List ℕ) → (length sent ≡ 0 → ⊥) → isUid sent ≡ true → beginsWith (rootOf m) sent ≡ false → nameSound m (sentName sent) ≡ true
-unfolding nameSound isUid
+unfolding nameSound
 sent-name-sound m sent n u b =
     let front = take-filled 64 0 sent (length sent) refl in
-    let short = leb-true (length sent) 64 (both-true (leb (length sent) 64) (components [] sent) u .0) in
-    all-holds _ (between-holds 1 64 (length sent) (omega arith) short, (rw front u, (rw (front, b), (behind-filled 64 0 sent (λ (c : ℕ). eqb c 0) refl, tt))))
+    all-holds _ (between-holds 1 64 (length sent) (omega arith) (uid-short sent u), (rw front u, (rw (front, b), (behind-filled 64 0 sent (λ (c : ℕ). eqb c 0) refl, tt))))
 
 pub name-from-sound : (k : Core) (sent : List ℕ) (m : Numbers) → Sendable k sent → rootOf m ≡ rootOf (k .numbers) → 1 ≤ k .numbers .serial → k .numbers .serial + ownSerials sent ≤ m .serial → nameSound m (nameFrom (k .numbers) sent) ≡ true
 name-from-sound k sent m s r h g =
