@@ -15,17 +15,17 @@ use Rattle.rules.specs.Checks.{decide}
 use Rattle.rules.specs.Sound.{coreSound, inputSound, sound}
 use Rattle.rules.specs.Calls.{Handed, startRules, check, started, printing}
 use Rattle.rules.specs.Outcomes.{inputHeld, recordsIn}
-use Rattle.promises.proofs.Named.{named-session, named-film, named-box}
+use Rattle.promises.proofs.Instances.{named-session, named-film, named-box}
 use Rattle.promises.proofs.Calls.{started-sound, opened-sound, closed-sound, taken-sound, session-deleted-sound}
 use Rattle.promises.proofs.Sessions.{session-set-sound}
 use Rattle.promises.proofs.NewSession.{session-created-sound}
 use Rattle.promises.proofs.Boxes.{box-set-sound}
 use Rattle.promises.proofs.Films.{film-deleted-sound, film-set-sound}
-use Rattle.promises.proofs.FilmCreated.{film-create-sound}
+use Rattle.promises.proofs.NewFilm.{film-create-sound}
 use Rattle.promises.proofs.Printing.{session-printed-sound, film-printed-sound}
 use Rattle.promises.proofs.Decided.{After, decided-does}
 use Rattle.promises.proofs.Steps.{Each, step-kept, run-kept}
-use Rattle.promises.proofs.Inputs.{RecordsFit, step-fits, run-fits, fits-sound, sound-fits, in-fits}
+use Rattle.promises.proofs.Collecting.{RecordsFit, step-fits, run-fits, fits-sound, sound-fits, in-fits}
 
 -- The core.
 

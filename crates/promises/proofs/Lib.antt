@@ -1,30 +1,35 @@
 -- The promises about the book.
-pub mod Packed
-pub mod StrikeOut
-pub mod Fakes
+-- Lists, and what the rules of the records say.
+pub mod ListLaws
 pub mod Facts
+pub mod Later
+pub mod Standings
+pub mod Layouts
+pub mod Instances
+pub mod NewNames
+-- The rules of the records are kept: calls, sessions, films, boxes, printing; requests, calls and runs.
 pub mod Calls
 pub mod Sessions
 pub mod NewSession
+pub mod Films
+pub mod NewFilm
 pub mod Boxes
-pub mod Named
-pub mod Held
-pub mod Fitting
-pub mod ReadBack
-pub mod FilmBack
-pub mod CreatedFilm
-pub mod Replies
-pub mod ListLaws
-pub mod Later
-pub mod Layouts
+pub mod Printing
 pub mod Decided
 pub mod Steps
-pub mod Names
-pub mod Standings
-pub mod Films
-pub mod Printing
-pub mod FilmCreated
-pub mod Tickets
-pub mod Numbers
-pub mod Inputs
+pub mod Collecting
 pub mod Kept
+-- Numbers and tickets.
+pub mod Numbers
+pub mod Tickets
+-- What is replied is read back, and fits.
+pub mod ReplySizes
+pub mod Held
+pub mod ReadBack
+pub mod FilmBack
+pub mod Replies
+-- Records and bytes.
+pub mod Packed
+-- Strike-out, and the fakes that it admits.
+pub mod StrikeOut
+pub mod Fakes

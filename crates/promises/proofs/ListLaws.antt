@@ -20,16 +20,16 @@ use Rattle.rules.specs.Sound.{all, zeros, filmBlank, entryBlank}
 -- Several tests.
 
 -- each of the tests holds
-abbrev pub Holds : List Bool → Type 0
-Holds [] = Unit {0}
-Holds (test ∷ tests) = (test ≡ true) × Holds tests
+abbrev pub AllHold : List Bool → Type 0
+AllHold [] = Unit {0}
+AllHold (test ∷ tests) = (test ≡ true) × AllHold tests
 
-pub all-true : (tests : List Bool) → all tests ≡ true → Holds tests
+pub all-true : (tests : List Bool) → all tests ≡ true → AllHold tests
 unfolding every
 all-true [] e = tt
 all-true (test ∷ tests) e = let t = both-true test (all tests) e in (t .0, all-true tests (t .1))
 
-pub all-holds : (tests : List Bool) → Holds tests → all tests ≡ true
+pub all-holds : (tests : List Bool) → AllHold tests → all tests ≡ true
 unfolding every
 all-holds [] h = refl
 all-holds (test ∷ tests) h = both-holds test (all tests) (h .0) (all-holds tests (h .1))

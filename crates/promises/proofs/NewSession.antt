@@ -29,7 +29,7 @@ use Rattle.rules.specs.Sound.{filmSound, shelfSound, serialsOf, uidsApart, core
 use Rattle.promises.proofs.ListLaws.{every-nil, zeros-replicate}
 use Rattle.promises.proofs.Facts.{core-facts, core-sound, counted, shelf-facts, shelf-sound, ValueFacts, session-sound}
 use Rattle.promises.proofs.Later.{queue-later, serials-sound, serials-later}
-use Rattle.promises.proofs.Names.{sendable, name-from-sound}
+use Rattle.promises.proofs.NewNames.{sendable, name-from-sound}
 use Rattle.promises.proofs.Sessions.{values-with}
 
 -- The session.

@@ -25,7 +25,7 @@ use Rattle.rules.specs.Calls.{Handed, opened, closed, taken, printing}
 use Rattle.promises.proofs.ListLaws.{films-shelved, every-at}
 use Rattle.promises.proofs.Facts.{core-facts, shelf-facts, film-facts}
 use Rattle.promises.proofs.Layouts.{boxes-most}
-use Rattle.promises.proofs.Named.{named-box}
+use Rattle.promises.proofs.Instances.{named-box}
 use Rattle.promises.proofs.Decided.{After, decided-does}
 use Rattle.promises.proofs.Steps.{Each, step-kept}
 

@@ -26,12 +26,11 @@ use Rattle.rules.specs.Attributes.{Listing, listingOf}
 use Rattle.rules.specs.Commands.{inCommand, placed, uidAt, hasUid, hasTarget, hasNumber, field, requestIn, wellFormed, understood}
 use Rattle.rules.specs.Responses.{Note, noNote, Reply, reply}
 use Rattle.rules.specs.Checks.{Class, verification, sessions, films, boxes, unknownClass, classOf, classPart, isSent, createRules, generalRules, Done, createPlan, setPlan, actionPlan, deletePlan, planOf, sentUid, newUid, dataOf, failedInstance, says, saysUnknown, failed, answered, decideRequest, decideCommand, decide}
-use Rattle.promises.proofs.Names.{uid-short, sendable, sent-short}
+use Rattle.promises.proofs.NewNames.{uid-short, sendable, sent-short}
 use Rattle.promises.proofs.Decided.{kept-both}
-use Rattle.promises.proofs.Fitting.{Short, Brief, reply-fits}
+use Rattle.promises.proofs.ReplySizes.{Short, Brief, reply-fits}
 use Rattle.promises.proofs.ReadBack.{ResponseMeans, response-means}
-use Rattle.promises.proofs.FilmBack.{FilmMeans}
-use Rattle.promises.proofs.CreatedFilm.{new-film-fits, new-film-means}
+use Rattle.promises.proofs.FilmBack.{FilmMeans, new-film-fits, new-film-means}
 
 -- Requests that are known name their class and their instance by UIDs.
 

@@ -31,8 +31,8 @@ use Rattle.promises.proofs.Facts.{core-facts, core-sound, Counted, coun
 use Rattle.promises.proofs.Later.{session-later, films-later, queue-later, serials-sound, serials-later}
 use Rattle.promises.proofs.Standings.{AllFine, kept-fine, fine-front, fine-behind, mandatory-fine, reference-live}
 use Rattle.promises.proofs.Layouts.{counts-grid, layout-sound, new-boxes}
-use Rattle.promises.proofs.Named.{nobody-named}
-use Rattle.promises.proofs.Names.{Sendable, sendable, name-from-sound, apart-later, apart-none, own-below, text-none, text-free}
+use Rattle.promises.proofs.Instances.{nobody-named}
+use Rattle.promises.proofs.NewNames.{Sendable, sendable, name-from-sound, apart-later, apart-none, own-below, text-none, text-free}
 use Rattle.promises.proofs.Films.{film-with-sound}
 
 -- The film.
