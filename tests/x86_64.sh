@@ -3,11 +3,11 @@
 if [ "$(uname -m)" = x86_64 ]; then
     x86_64_cc=(gcc)
     x86_64_run=()
-    command -v gcc >/dev/null || apt-get install -y -qq gcc libc6-dev >/dev/null
 else
     x86_64_cc=(x86_64-linux-gnu-gcc -static)
     x86_64_run=(qemu-x86_64)
     if ! command -v "${x86_64_cc[0]}" >/dev/null || ! command -v "${x86_64_run[0]}" >/dev/null; then
+        apt-get update -qq
         apt-get install -y -qq gcc-x86-64-linux-gnu libc6-dev-amd64-cross qemu-user >/dev/null
     fi
 fi

@@ -132,6 +132,15 @@ module _ (s : List ℕ) (explicit : Bool) (room : ℕ) (inside : Inside) (at : �
     unfolding listStep elementsFrom
     elements-on = elements-unroll (elementAt s explicit room) (element-in s explicit room) s inside (mark at floor) h
 
+    pub elements-done : {q : ℕ} → closeAt s itemEnd inside at ≡ Here q → elementsFrom s explicit room inside (mark at floor) ≡ []
+    elements-done k = elements-on ∙ rw k
+
+    pub elements-refused : {n : ℕ} → closeAt s itemEnd inside at ≡ Not → elementAt s explicit room (inside .stop) at floor ≡ Refused n → elementsFrom s explicit room inside (mark at floor) ≡ []
+    elements-refused k e = elements-on ∙ rw (k, e)
+
+    pub elements-more : {q : ℕ} → closeAt s itemEnd inside at ≡ Not → elementAt s explicit room (inside .stop) at floor ≡ Past q → elementsFrom s explicit room inside (mark at floor) ≡ mark at floor ∷ elementsFrom s explicit room inside (mark q (tagAt s at + 1))
+    elements-more k e = elements-on ∙ rw (k, e)
+
     module _ (tag : ℕ) where
       pub find-done : {q : ℕ} → closeAt s itemEnd inside at ≡ Here q → among s explicit (inside .stop) tag (elementsFrom s explicit room inside (mark at floor)) ≡ Missing
       find-done k = rw (elements-on, k)

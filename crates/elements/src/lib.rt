@@ -63,7 +63,7 @@ fn list(s: &[u8], explicit: bool, room: usize, inside: Inside) -> Read
 }
 
 // One element: a value is passed over, and a sequence is read item by item.
-fn element(s: &[u8], explicit: bool, room: usize, end: usize, at: usize, floor: usize) -> Read
+pub fn element(s: &[u8], explicit: bool, room: usize, end: usize, at: usize, floor: usize) -> Read
     requires { ⌜ (at ≤ end) × (end ≤ length (now s)) ⌝ }
     ensures { λ r. ⌜ r ≡ elementAt (now (s .entry)) explicit room end at floor ⌝ }
 {

@@ -24,7 +24,7 @@ use Rattle.promises.proofs.Films.{film-deleted-sound, film-set-sound}
 use Rattle.promises.proofs.NewFilm.{film-create-sound}
 use Rattle.promises.proofs.Printing.{session-printed-sound, film-printed-sound}
 use Rattle.promises.proofs.Decided.{After, decided-does}
-use Rattle.promises.proofs.Steps.{Each, step-kept, run-kept}
+use Rattle.promises.proofs.Steps.{AfterCalls, step-kept, run-kept}
 use Rattle.promises.proofs.Collecting.{RecordsFit, step-fits, run-fits, fits-sound, sound-fits, in-fits}
 
 -- The core.
@@ -50,7 +50,7 @@ after-sound k e = record {
 pub request-keeps : (k : Core) (c : List ℕ) (d : DataSet) (k' : Core) (r : Reply) → coreSound k ≡ true → decide k c d ≡ does k' r → coreSound k' ≡ true
 request-keeps k c d k' r e = decided-does Sound k (after-sound k e) c d k' r
 
-each-sound : (k : Core) → Sound k → Each Sound k
+each-sound : (k : Core) → Sound k → AfterCalls Sound k
 each-sound k e = record {
   open-kept = λ h r. opened-sound k h e r;
   close-kept = closed-sound k e;

@@ -86,7 +86,18 @@ lines-sound r c h g m =
 pub layout-sound : (counts : List ℕ) → Grid counts → layoutSound (layoutFrom counts) ≡ true
 layout-sound counts g = rw (g .lines) (lines-sound (g .more) (g .columns) (g .few) (g .some) (g .most))
 
--- How many boxes.
+-- How many lines, and how many boxes.
+
+few-lines : (counts : List ℕ) (none : Bool) → eqb (length counts) 0 ≡ none → ((length counts ≡ 0 → ⊥) → Grid counts) → length counts ≤ 6
+few-lines counts true e g = let z = eqb-true (length counts) 0 e in omega arith
+few-lines counts false e g =
+    let t = g (eqb-false (length counts) 0 e) in
+    let few = t .few in
+    rw (t .lines) (rw (length-replicate (suc (t .more)) (t .columns)) (omega arith))
+
+-- whatever a text says, it gives no more than six lines
+pub lines-few : (v : List ℕ) → length (countsIn v) ≤ 6
+lines-few v = few-lines (countsIn v) (eqb (length (countsIn v)) 0) refl (counts-grid v)
 
 sum-most : (c : ℕ) (xs : List ℕ) → c ≤ 6 → every (eqb c) xs ≡ true → sum xs ≤ 6 * length xs
 unfolding sum

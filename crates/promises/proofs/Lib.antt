@@ -28,8 +28,16 @@ pub mod Held
 pub mod ReadBack
 pub mod FilmBack
 pub mod Replies
--- Records and bytes.
+-- Records and bytes: what a call packs, the next one unpacks.
 pub mod Packed
--- Strike-out, and the fakes that it admits.
+pub mod Sized
+pub mod SizedAfter
+pub mod SizedSteps
+pub mod Good
+pub mod Unpacked
+pub mod Next
+pub mod NextCalls
+-- Strike-out, a run of it, and the fakes that it admits.
 pub mod StrikeOut
+pub mod Run
 pub mod Fakes

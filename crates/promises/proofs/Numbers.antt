@@ -27,7 +27,7 @@ use Rattle.promises.proofs.Facts.{core-facts, shelf-facts, film-facts}
 use Rattle.promises.proofs.Layouts.{boxes-most}
 use Rattle.promises.proofs.Instances.{named-box}
 use Rattle.promises.proofs.Decided.{After, decided-does}
-use Rattle.promises.proofs.Steps.{Each, step-kept}
+use Rattle.promises.proofs.Steps.{AfterCalls, step-kept}
 
 -- next numbers are never lower
 pub record Grown (before after : Numbers) : Type 0 where
@@ -77,7 +77,7 @@ module _ (k : Core) where
   unfolding taken
   taken-numbers h = refl
 
-  each-grown : Each (λ k'. Grown (k .numbers) (k' .numbers)) k
+  each-grown : AfterCalls (λ k'. Grown (k .numbers) (k' .numbers)) k
   each-grown = record {
     open-kept = λ h r. rw (opened-numbers h) (same-numbers (k .numbers));
     close-kept = rw closed-numbers (same-numbers (k .numbers));

@@ -7,6 +7,7 @@ use native.Mathlib.Omega.{arith}
 use lib.ListN.{length}
 use lib.Seq.{take-all}
 use Rattle.octets.specs.Octets.{part, Bytes}
+use Rattle.octets.proofs.Laid.{stands-first}
 use Rattle.fields.proofs.Laws.{Laws, byte-laws, number-laws, _then-laws_, array-laws, via-laws}
 use Rattle.rules.specs.declared.State.{State}
 use Rattle.rules.specs.Bounds.{commandLimit, mostFilms, mostBoxes, mostEntries, rootLimit}
@@ -69,7 +70,7 @@ opened-laws : Laws openedFormat
 unfolding openedFormat
 opened-laws = via-laws _ _ (λ b. refl) (λ a. refl) (byte-laws then-laws byte-laws then-laws byte-laws then-laws number-laws 4)
 
-core-laws : Laws coreFormat
+pub core-laws : Laws coreFormat
 unfolding coreFormat
 core-laws =
     via-laws _ _ (λ b. refl) (λ a. refl)
@@ -92,6 +93,13 @@ from-start b n e = let k : 0 + n - 0 ≡ n = omega arith in rw k (take-all n b (
 pub unpack-pack : (s : State) → stateFormat .Good s → unpack (pack s) ≡ s
 unfolding unpack pack
 unpack-pack s g = state-laws .back s (pack s) 0 g (from-start (pack s) (length (pack s)) refl)
+
+-- the core alone, where only its numbers fit their fields
+pub core-unpacked : (s : State) → coreFormat .Good (s .core) → unpack (pack s) .core ≡ s .core
+unfolding unpack pack stateFormat
+core-unpacked s g =
+    core-laws .back (s .core) (pack s) 0 g
+    (stands-first (pack s) 0 (coreFormat .bytes (s .core)) (inputFormat .bytes (s .input)) (from-start (pack s) (length (pack s)) refl))
 
 -- any bytes, as many as the records have
 pub pack-unpack : (b : List ℕ) → Bytes b → length b ≡ recordsSize → pack (unpack b) ≡ b

@@ -29,13 +29,13 @@ run-cases P f s (c ∷ cs) p = run-cases P f (step printing s c .records) cs (f 
 -- A fact of the core.
 
 -- a fact holds after each call but start
-pub record Each (P : Core → Type 0) (k : Core) : Type 0 where
+pub record AfterCalls (P : Core → Type 0) (k : Core) : Type 0 where
   pub open-kept : (h : Handed) → Kept (openRules k h) → P (opened k h)
   pub close-kept : P (closed k)
   pub take-kept : (h : Handed) → Kept (takeRules k h) → P (taken k h .0)
   pub request-kept : After P k
 
-module _ (P : Core → Type 0) (s : Records Core) (each : Each P (s .core)) where
+module _ (P : Core → Type 0) (s : Records Core) (each : AfterCalls P (s .core)) where
   result-kept : (d : DataSet) (x : Result Core Reply) → OfDone P x → P (answered printing (s .core) d x .records .core)
   unfolding answered
   result-kept d (fails r) h = each .request-kept .kept
@@ -66,5 +66,5 @@ module _ (P : Core → Type 0) (s : Records Core) (each : Each P (s .core)) wher
   step-kept c f = step-cases (λ (x : Records Core). P (x .core)) s c (each .request-kept .kept) (passed-kept c f)
 
 -- a run of calls
-pub run-kept : (P : Core → Type 0) → ((h : Handed) → Kept (startRules h) → P (started h)) → ((k : Core) → P k → Each P k) → (s : Records Core) (cs : List (Call Handed)) → P (s .core) → P (messages.after printing s cs .core)
+pub run-kept : (P : Core → Type 0) → ((h : Handed) → Kept (startRules h) → P (started h)) → ((k : Core) → P k → AfterCalls P k) → (s : Records Core) (cs : List (Call Handed)) → P (s .core) → P (messages.after printing s cs .core)
 run-kept P f g = run-cases (λ (s : Records Core). P (s .core)) (λ s c p. step-kept P s (g (s .core) p) c (λ h e r. f h r))

@@ -49,6 +49,10 @@ recordsIn s message = record { core = s .core; input = inputIn (s .input) messag
 unfoldable pub written : Records Core → List ℕ → List ℕ
 written r b = laid b 0 (pack (record { core = r .core; input = inputHeld (r .input) }))
 
+-- the same with another core alone: the message half collected stays as it stands
+unfoldable pub coreWritten : Core → List ℕ → List ℕ
+coreWritten k b = laid b 0 (pack (record { core = k; input = unpack b .input }))
+
 -- What a response fills: command, data set, report.
 
 abbrev pub noteBytes : Note → List ℕ
@@ -112,7 +116,7 @@ abbrev pub nothingTaken : List ℕ → List ℕ → ℕ → Taking
 nothingTaken b e n = record { number = n; records = b; entry = e }
 
 abbrev pub tookFrom : Records Core → List ℕ → List ℕ → Answer Reply (List ℕ) → Taking
-tookFrom r b e (told bytes) = record { number = 0; records = written r b; entry = laid e 0 bytes }
+tookFrom r b e (told bytes) = record { number = 0; records = coreWritten (r .core) b; entry = laid e 0 bytes }
 tookFrom r b e (refused n) = nothingTaken b e n
 tookFrom r b e done = nothingTaken b e 0
 tookFrom r b e ignored = nothingTaken b e 0

@@ -1,0 +1,18 @@
+use Rattle.commands.specs.Requests.{settingIn, knownAs, targetIn}
+use mathlib.Core.Path.{_∙_}
+use borrow.Author.Tests.{not-false, not-true}
+use borrow.Author.Needs.{needs}
+use Rattle.commands.proofs.setting.Statement.{statement}
+use Rattle.commands.proofs.setting.Tie as tie
+
+returns : tie.Need-returns
+unfolding settingIn knownAs targetIn
+returns c = simp (← (c .before .has-target .ensures), not-true (c .before .has-target .result) (c .if1 .taken))
+
+returns-2 : tie.Need-returns-2
+unfolding settingIn knownAs targetIn
+returns-2 c = c .known .ensures ∙ simp (← (c .before .before .before .has-target .ensures), not-false (c .before .before .before .has-target .result) (c .before .before .if1 .left), ← (c .before .target .ensures))
+
+pub setting-spec : {M : Type 1} → statement M
+setting-spec =
+    tie.close (tie.spec (λ c κs. search needs) returns (λ c κs. search needs) (λ c κs. search needs) returns-2)

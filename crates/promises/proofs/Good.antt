@@ -1,0 +1,469 @@
+-- Records that keep their rules, with arrays of their lengths, fit their fields: packed and unpacked, they are the same.
+-- Assumes nothing.
+use Prim.Native.Nat.{ℕ, zero, suc, _+_, _%_, _<_, _≤_}
+use mathlib.Core.Path.{_≡_, refl, subst}
+use mathlib.Core.Bool.{Bool, true, false}
+use mathlib.Core.List.{List, [], _∷_, _++_, append-assoc}
+use native.Mathlib.Omega.{arith}
+use lib.Dec.{eqb, leb, ltb}
+use lib.ListN.{length, getD, take, drop}
+use borrow.Author.Tests.{leb-true, ltb-true, eqb-true}
+use Rattle.choice.specs.Pick.{pick, both, either, not}
+use Rattle.choice.proofs.Picks.{both-true}
+use Rattle.octets.specs.Octets.{Bytes}
+use Rattle.octets.proofs.Same.{same-equal}
+use Rattle.uids.specs.Uids.{digits, component, components, isUid, beginsWith}
+use Rattle.fields.specs.Format.{Format, byte, array, write}
+use Rattle.fields.proofs.Laws.{read-write}
+use Rattle.strike.specs.Machine as machine
+use Rattle.strike.specs.Machine.{idle, inCommand, skippingCommand, inData, skippingData, Records}
+use Rattle.rules.specs.Bounds.{commandLimit, leastRoom, mostRoom, mostFilms, mostBoxes, mostEntries, rootLimit, noneLeft}
+use Rattle.rules.specs.declared.Picture.{Picture}
+use Rattle.rules.specs.declared.Name.{Name}
+use Rattle.rules.specs.declared.Session.{Session}
+use Rattle.rules.specs.declared.ImageBox.{ImageBox}
+use Rattle.rules.specs.declared.Layout.{Layout}
+use Rattle.rules.specs.declared.Film.{Film}
+use Rattle.rules.specs.declared.Shelf.{Shelf}
+use Rattle.rules.specs.declared.Entry.{Entry}
+use Rattle.rules.specs.declared.Queue.{Queue}
+use Rattle.rules.specs.declared.Numbers.{Numbers}
+use Rattle.rules.specs.declared.Opened.{Opened}
+use Rattle.rules.specs.declared.Core.{Core}
+use Rattle.rules.specs.declared.Input.{Input}
+use Rattle.rules.specs.Lists.{every, sum, filledTo}
+use Rattle.rules.specs.Values.{trimmed, labelByte, labelAllowed}
+use Rattle.rules.specs.Records.{rootOf, boxCount, boxesOf, filmsOf, entriesOf, isLive}
+use Rattle.rules.specs.Sound.{between, zeros, flag, nameSound, sentSound, madeSound, nameBlank, numbersSound, sessionSound, sessionBlank, layoutSound, boxSound, boxBlank, filmSound, filmBlank, shelfSound, entrySound, entryBlank, queueSound, openSound, openedSound, coreSound}
+use Rattle.rules.specs.Layout.{serialFormat, pictureFormat, nameFormat, sessionFormat, boxFormat, layoutFormat, filmFormat, shelfFormat, entryFormat, queueFormat, numbersFormat, openedFormat, coreFormat, inputFormat, stateFormat, recordsSize, unpack, pack}
+use Rattle.rules.specs.Outcomes.{held, inputHeld, written}
+use Rattle.rules.proofs.Sizes.{records-size}
+use Rattle.promises.proofs.Packed.{state-laws, unpack-pack, core-unpacked}
+use Rattle.promises.proofs.ListLaws.{all-true}
+use Rattle.promises.proofs.Facts.{between-true, core-facts, numbers-facts, shelf-facts, queue-facts, LabelFacts, session-facts, box-facts, film-facts}
+use Rattle.promises.proofs.Layouts.{boxes-most}
+use Rattle.promises.proofs.Kept.{stateOf}
+use Rattle.promises.proofs.Sized.{Each, each-at, each-append, each-take, each-drop, each-join, each-filled, each-told, each-so, filled-length, NameSized, SessionSized, FilmSized, ShelfSized, EntrySized, QueueSized, NumbersSized, Sized}
+
+-- Arrays.
+
+pub good-array : {A : Type 0} (f : Format A) (n : ℕ) (xs : List A) → length xs ≡ n → Each (f .Good) xs → array n f .Good xs
+good-array f n xs e h = (e, λ i k. each-at (f .Good) xs i (f .blank) h (omega arith))
+
+-- Bytes.
+
+abbrev pub Byte : ℕ → Type 0
+Byte b = b < 256
+
+zero-bytes : (s : List ℕ) → zeros s ≡ true → Each Byte s
+zero-bytes s e = each-told Byte (λ (b : ℕ). eqb b 0) (λ b h. let z = eqb-true b 0 h in omega arith) s e
+
+digit-bytes : (s : List ℕ) → digits s ≡ true → Each Byte s
+unfolding digits
+digit-bytes [] e = tt
+digit-bytes (c ∷ s) e =
+    let t = both-true (both (leb 48 c) (leb c 57)) (digits s) e in
+    let h = leb-true c 57 (both-true (leb 48 c) (leb c 57) (t .0) .1) in
+    (omega arith, digit-bytes s (t .1))
+
+component-bytes : (s : List ℕ) → component s ≡ true → Each Byte s
+unfolding component
+component-bytes s e =
+    let number = either (eqb (length s) 1) (not (eqb (getD s 0 0) 48)) in
+    let t = both-true (not (eqb (length s) 0)) (both (digits s) number) e in
+    digit-bytes s (both-true (digits s) number (t .1) .0)
+
+past-dot : (front : List ℕ) (c : ℕ) (s : List ℕ) (dot : Bool) → eqb c 46 ≡ dot → (components [] s ≡ true → Each Byte s) → (components (front ++ (c ∷ [])) s ≡ true → Each Byte ((front ++ (c ∷ [])) ++ s)) → pick dot (both (component front) (components [] s)) (components (front ++ (c ∷ [])) s) ≡ true → Each Byte (front ++ (c ∷ s))
+past-dot front c s true e f g h =
+    let t = both-true (component front) (components [] s) h in
+    let z = eqb-true c 46 e in
+    each-append Byte front (c ∷ s) (component-bytes front (t .0)) (omega arith, f (t .1))
+past-dot front c s false e f g h = subst (Each Byte) (append-assoc front (c ∷ []) s) (g h)
+
+parted-bytes : (front s : List ℕ) → components front s ≡ true → Each Byte (front ++ s)
+unfolding components
+parted-bytes front [] e = each-append Byte front [] (component-bytes front e) tt
+parted-bytes front (c ∷ s) e = past-dot front c s (eqb c 46) refl (parted-bytes [] s) (parted-bytes (front ++ (c ∷ [])) s) e
+
+-- a UID is of digits and dots
+pub uid-bytes : (s : List ℕ) → isUid s ≡ true → Each Byte s
+unfolding isUid
+uid-bytes s e = parted-bytes [] s (both-true (leb (length s) 64) (components [] s) e .1)
+
+-- Numbers.
+
+pub good-numbers : (n : Numbers) → numbersSound n ≡ true → NumbersSized n → numbersFormat .Good n
+unfolding numbersFormat rootOf
+good-numbers n e s =
+    let t = numbers-facts n e in
+    let used = between-true 1 rootLimit (n .used) (t .used) .1 in
+    let serial = between-true 1 noneLeft (n .serial) (t .serial) .1 in
+    let picture = between-true 1 noneLeft (n .picture) (t .picture) .1 in
+    let ticket = s .ticket in (
+      omega arith,
+      (
+        good-array byte rootLimit (n .root) (s .root) (each-join Byte (n .used) (n .root) (uid-bytes (take (n .used) (n .root)) (t .root)) (zero-bytes (drop (n .used) (n .root)) (t .behind))),
+        (omega arith, (omega arith, omega arith)),
+      ),
+    )
+
+-- Names.
+
+abbrev sentTests : Numbers → Name → List Bool
+sentTests n name =
+    between 1 64 (name .used)
+    ∷ isUid (take (name .used) (name .text))
+    ∷ not (beginsWith (rootOf n) (take (name .used) (name .text)))
+    ∷ zeros (drop (name .used) (name .text))
+    ∷ []
+
+name-fits : (name : Name) → name .made .0 < 4294967296 → name .used < 256 → Each Byte (name .text) → NameSized name → nameFormat .Good name
+unfolding nameFormat serialFormat
+name-fits name h k b s = (h, (k, good-array byte 64 (name .text) s b))
+
+sent-fits : (n : Numbers) (name : Name) → eqb (name .made .0) 0 ≡ true → sentSound n name ≡ true → NameSized name → nameFormat .Good name
+sent-fits n name m e s =
+    let z = eqb-true (name .made .0) 0 m in
+    let t = all-true (sentTests n name) e in
+    let used = between-true 1 64 (name .used) (t .0) .1 in
+    name-fits name (omega arith) (omega arith)
+    (each-join Byte (name .used) (name .text) (uid-bytes (take (name .used) (name .text)) (t .1 .0)) (zero-bytes (drop (name .used) (name .text)) (t .1 .1 .1 .0)))
+    s
+
+made-fits : (n : Numbers) (name : Name) → n .serial ≤ noneLeft → madeSound n name ≡ true → NameSized name → nameFormat .Good name
+made-fits n name h e s =
+    let t = all-true (ltb (name .made .0) (n .serial) ∷ eqb (name .used) 0 ∷ zeros (name .text) ∷ []) e in
+    let below = ltb-true (name .made .0) (n .serial) (t .0) in
+    let used = eqb-true (name .used) 0 (t .1 .0) in
+    name-fits name (omega arith) (omega arith) (zero-bytes (name .text) (t .1 .1 .0)) s
+
+name-cases : (n : Numbers) (name : Name) (sent : Bool) → eqb (name .made .0) 0 ≡ sent → n .serial ≤ noneLeft → pick sent (sentSound n name) (madeSound n name) ≡ true → NameSized name → nameFormat .Good name
+name-cases n name true m h e s = sent-fits n name m e s
+name-cases n name false m h e s = made-fits n name h e s
+
+pub good-name : (n : Numbers) (name : Name) → n .serial ≤ noneLeft → nameSound n name ≡ true → NameSized name → nameFormat .Good name
+unfolding nameSound
+good-name n name h e s = name-cases n name (eqb (name .made .0) 0) refl h e s
+
+pub good-no-name : (name : Name) → nameBlank name ≡ true → NameSized name → nameFormat .Good name
+good-no-name name e s =
+    let t = all-true (eqb (name .made .0) 0 ∷ eqb (name .used) 0 ∷ zeros (name .text) ∷ []) e in
+    let made = eqb-true (name .made .0) 0 (t .0) in
+    let used = eqb-true (name .used) 0 (t .1 .0) in
+    name-fits name (omega arith) (omega arith) (zero-bytes (name .text) (t .1 .1 .0)) s
+
+-- The session.
+
+label-bytes : (used : ℕ) (label : List ℕ) → LabelFacts used label → Each Byte label
+unfolding labelAllowed
+label-bytes used label f =
+    let front = take used label in
+    let allowed = both-true (leb (length (trimmed front)) 64) (every labelByte (trimmed front)) (f .allowed) .1 in
+    let small : (c : ℕ) → labelByte c ≡ true → c < 256 = λ c e.
+    (let h = leb-true c 0x7E (both-true (leb c 0x7E) (not (eqb c 0x5C)) (both-true (leb 0x20 c) (both (leb c 0x7E) (not (eqb c 0x5C))) e .1) .0) in omega arith) in
+    each-join Byte used label
+    (subst (Each Byte) (same-equal (trimmed front) front (f .bare)) (each-told Byte labelByte small (trimmed front) allowed))
+    (zero-bytes (drop used label) (f .behind))
+
+live-fits : (n : Numbers) (s : Session) → n .serial ≤ noneLeft → s .live ≤ 1 → sessionSound n s ≡ true → SessionSized s → sessionFormat .Good s
+unfolding sessionFormat
+live-fits n s h live e z =
+    let t = session-facts n s e in
+    let copies = between-true 1 99 (s .copies) (t .1 .copies) .1 in
+    let priority = leb-true (s .priority) 2 (t .1 .priority) in
+    let medium = leb-true (s .medium) 2 (t .1 .medium) in
+    let destination = leb-true (s .destination) 1 (t .1 .destination) in
+    let used = leb-true (s .used) 64 (t .1 .label .short) in
+    (omega arith, (good-name n (s .name) h (t .0) (z .name), (omega arith, (omega arith, (omega arith, (omega arith, (omega arith, good-array byte 64 (s .label) (z .label) (label-bytes (s .used) (s .label) (t .1 .label)))))))))
+
+no-session-fits : (s : Session) → s .live ≤ 1 → sessionBlank s ≡ true → SessionSized s → sessionFormat .Good s
+unfolding sessionFormat
+no-session-fits s live e z =
+    let values : List ℕ = s .copies ∷ s .priority ∷ s .medium ∷ s .destination ∷ s .used ∷ [] in
+    let t = all-true (nameBlank (s .name) ∷ zeros values ∷ zeros (s .label) ∷ []) e in
+    let v = zero-bytes values (t .1 .0) in
+    (omega arith, (good-no-name (s .name) (t .0) (z .name), (v .0, (v .1 .0, (v .1 .1 .0, (v .1 .1 .1 .0, (v .1 .1 .1 .1 .0, good-array byte 64 (s .label) (z .label) (zero-bytes (s .label) (t .1 .1 .0)))))))))
+
+session-cases : (n : Numbers) (s : Session) (live : Bool) → n .serial ≤ noneLeft → s .live ≤ 1 → pick live (sessionSound n s) (sessionBlank s) ≡ true → SessionSized s → sessionFormat .Good s
+session-cases n s true h k e z = live-fits n s h k e z
+session-cases n s false h k e z = no-session-fits s k e z
+
+pub good-session : (n : Numbers) (s : Session) → n .serial ≤ noneLeft → flag (s .live) ≡ true → pick (isLive s) (sessionSound n s) (sessionBlank s) ≡ true → SessionSized s → sessionFormat .Good s
+good-session n s h live e z = session-cases n s (isLive s) h (leb-true (s .live) 1 live) e z
+
+-- Layouts.
+
+abbrev layoutTests : Layout → List Bool
+layoutTests l =
+    between 1 6 (l .lines)
+    ∷ between 1 6 (getD (l .counts) 0 0)
+    ∷ every (eqb (getD (l .counts) 0 0)) (take (l .lines) (l .counts))
+    ∷ zeros (drop (l .lines) (l .counts))
+    ∷ []
+
+-- as many lines as there may be, and as many boxes in each
+pub record LayoutFacts (l : Layout) : Type 0 where
+  pub lines : (1 ≤ l .lines) × (l .lines ≤ 6)
+  pub first : (1 ≤ getD (l .counts) 0 0) × (getD (l .counts) 0 0 ≤ 6)
+  pub counts : Each (λ (c : ℕ). c ≤ 6) (take (l .lines) (l .counts))
+  pub behind : zeros (drop (l .lines) (l .counts)) ≡ true
+
+pub layout-facts : (l : Layout) → layoutSound l ≡ true → LayoutFacts l
+unfolding layoutSound
+layout-facts l e =
+    let t = all-true (layoutTests l) e in
+    let c = getD (l .counts) 0 0 in
+    let first = between-true 1 6 c (t .1 .0) in
+    record {
+      lines = between-true 1 6 (l .lines) (t .0);
+      first = first;
+      counts = each-told (λ (x : ℕ). x ≤ 6) (eqb c) (λ x h. let z = eqb-true c x h in omega (arith, first .1)) (take (l .lines) (l .counts)) (t .1 .1 .0);
+      behind = t .1 .1 .1 .0;
+    }
+
+sum-first : (n : ℕ) (xs : List ℕ) → 1 ≤ n → getD xs 0 0 ≤ sum (take n xs)
+unfolding sum
+sum-first zero xs h = absurd (omega arith)
+sum-first (suc n) [] h = omega arith
+sum-first (suc n) (x ∷ xs) h = omega arith
+
+-- a film has a box, and no more than there are places
+pub box-count : (l : Layout) → layoutSound l ≡ true → (1 ≤ boxCount l) × (boxCount l ≤ mostBoxes)
+unfolding boxCount
+box-count l e =
+    let t = layout-facts l e in
+    let low = sum-first (l .lines) (l .counts) (t .lines .0) in
+    (omega (arith, t .first .0), boxes-most l e)
+
+few-bytes : (xs : List ℕ) → Each (λ (c : ℕ). c ≤ 6) xs → Each Byte xs
+few-bytes [] h = tt
+few-bytes (x ∷ xs) h = let k = h .0 in (omega arith, few-bytes xs (h .1))
+
+pub good-layout : (l : Layout) → layoutSound l ≡ true → length (l .counts) ≡ 6 → layoutFormat .Good l
+unfolding layoutFormat
+good-layout l e z =
+    let t = layout-facts l e in (
+      omega (arith, t .lines .1),
+      good-array byte 6 (l .counts) z
+          (each-join Byte (l .lines) (l .counts)
+          (few-bytes (take (l .lines) (l .counts)) (t .counts))
+          (zero-bytes (drop (l .lines) (l .counts)) (t .behind))),
+    )
+
+-- Pictures and boxes.
+
+good-picture : (n : Numbers) (p : Picture) → n .picture ≤ noneLeft → ltb (p .0) (n .picture) ≡ true → pictureFormat .Good p
+unfolding pictureFormat
+good-picture n p h e = let k = ltb-true (p .0) (n .picture) e in omega arith
+
+good-no-picture : (p : Picture) → eqb (p .0) 0 ≡ true → pictureFormat .Good p
+unfolding pictureFormat
+good-no-picture p e = let z = eqb-true (p .0) 0 e in omega arith
+
+pub good-box : (boxes : ℕ) (n : Numbers) (b : ImageBox) → boxes ≤ mostBoxes → n .picture ≤ noneLeft → boxSound boxes n b ≡ true → boxFormat .Good b
+unfolding boxFormat pictureFormat
+good-box boxes n b h k e =
+    let t = box-facts boxes n b e in
+    let position = between-true 1 boxes (b .position) (t .0) .1 in
+    let polarity = leb-true (b .polarity) 1 (t .1) in
+    let picture = ltb-true (b .picture .0) (n .picture) (t .2) in
+    (omega arith, (omega arith, omega arith))
+
+pub good-no-box : (b : ImageBox) → boxBlank b ≡ true → boxFormat .Good b
+unfolding boxFormat pictureFormat
+good-no-box b e =
+    let v = zero-bytes (b .position ∷ b .polarity ∷ b .picture .0 ∷ []) e in
+    (v .0, (v .1 .0, omega (arith, v .1 .1 .0)))
+
+-- Films.
+
+pub good-film : (n : Numbers) (f : Film) → n .serial ≤ noneLeft → n .picture ≤ noneLeft → filmSound n f ≡ true → FilmSized f → filmFormat .Good f
+unfolding filmFormat serialFormat boxesOf
+good-film n f h k e z =
+    let t = film-facts n f e in
+    let count = boxCount (f .layout) in
+    let some = box-count (f .layout) (t .layout) in
+    let orientation = leb-true (f .orientation) 1 (t .orientation) in
+    let magnification = leb-true (f .magnification) 3 (t .magnification) in
+    let last = leb-true (f .first .0 + count) (n .serial) (t .last) in (
+      good-name n (f .name) h (t .name) (z .name),
+      (
+        good-layout (f .layout) (t .layout) (z .counts),
+        (
+          omega arith,
+          (
+            omega arith,
+            (
+              omega (arith, some .0),
+              good-array boxFormat mostBoxes (f .boxes) (z .boxes)
+                  (each-join (boxFormat .Good) count (f .boxes)
+                  (each-told (boxFormat .Good) (boxSound count n) (λ b s. good-box count n b (some .1) k s) (take count (f .boxes)) (t .boxes))
+                  (each-told (boxFormat .Good) boxBlank good-no-box (drop count (f .boxes)) (t .behind))),
+            ),
+          ),
+        ),
+      ),
+    )
+
+pub good-no-film : (f : Film) → filmBlank f ≡ true → FilmSized f → filmFormat .Good f
+unfolding filmFormat serialFormat layoutFormat
+good-no-film f e z =
+    let values : List ℕ = f .layout .lines ∷ f .orientation ∷ f .magnification ∷ f .first .0 ∷ [] in
+    let t = all-true (nameBlank (f .name) ∷ zeros values ∷ zeros (f .layout .counts) ∷ every boxBlank (f .boxes) ∷ []) e in
+    let v = zero-bytes values (t .1 .0) in (
+      good-no-name (f .name) (t .0) (z .name),
+      (
+        (v .0, good-array byte 6 (f .layout .counts) (z .counts) (zero-bytes (f .layout .counts) (t .1 .1 .0))),
+        (
+          v .1 .0,
+          (
+            v .1 .1 .0,
+            (
+              omega (arith, v .1 .1 .1 .0),
+              good-array boxFormat mostBoxes (f .boxes) (z .boxes) (each-told (boxFormat .Good) boxBlank good-no-box (f .boxes) (t .1 .1 .1 .0)),
+            ),
+          ),
+        ),
+      ),
+    )
+
+most-films : (live : Bool) (count : ℕ) → leb count (pick live mostFilms 0) ≡ true → count ≤ mostFilms
+most-films true count e = leb-true count mostFilms e
+most-films false count e = let h = leb-true count 0 e in omega arith
+
+pub good-shelf : (n : Numbers) (s : Session) (shelf : Shelf) → n .serial ≤ noneLeft → n .picture ≤ noneLeft → shelfSound n s shelf ≡ true → ShelfSized shelf → shelfFormat .Good shelf
+unfolding shelfFormat filmsOf
+good-shelf n s shelf h k e z =
+    let t = shelf-facts n s shelf e in
+    let few = most-films (isLive s) (shelf .count) (t .count) in
+    let front = take (shelf .count) (shelf .films) in
+    let behind = drop (shelf .count) (shelf .films) in (
+      omega arith,
+      good-array filmFormat mostFilms (shelf .films) (z .films)
+          (each-join (filmFormat .Good) (shelf .count) (shelf .films)
+          (each-so FilmSized (filmSound n) (filmFormat .Good) (λ f. good-film n f h k) front (t .films) (each-take FilmSized (shelf .count) (shelf .films) (z .each)))
+          (each-so FilmSized filmBlank (filmFormat .Good) good-no-film behind (t .behind) (each-drop FilmSized (shelf .count) (shelf .films) (z .each)))),
+    )
+
+-- The queue.
+
+pub good-entry : (n : Numbers) (x : Entry) → n .serial ≤ noneLeft → n .picture ≤ noneLeft → entrySound n x ≡ true → EntrySized x → entryFormat .Good x
+unfolding entryFormat entrySound
+good-entry n x h k e z =
+    let below : Picture → Bool = λ (p : Picture). ltb (p .0) (n .picture) in
+    let t = all-true (every below (x .pictures) ∷ between 1 99 (x .copies) ∷ nameSound n (x .film) ∷ []) e in
+    let copies = between-true 1 99 (x .copies) (t .1 .0) .1 in (
+      good-array pictureFormat mostBoxes (x .pictures) (z .pictures) (each-told (pictureFormat .Good) below (λ p s. good-picture n p k s) (x .pictures) (t .0)),
+      (z .ticket, (omega arith, good-name n (x .film) h (t .1 .1 .0) (z .film))),
+    )
+
+pub good-no-entry : (x : Entry) → entryBlank x ≡ true → EntrySized x → entryFormat .Good x
+unfolding entryFormat
+good-no-entry x e z =
+    let zero-picture : Picture → Bool = λ (p : Picture). eqb (p .0) 0 in
+    let t = all-true (every zero-picture (x .pictures) ∷ zeros (x .ticket ∷ x .copies ∷ []) ∷ nameBlank (x .film) ∷ []) e in
+    let v = zero-bytes (x .ticket ∷ x .copies ∷ []) (t .1 .0) in (
+      good-array pictureFormat mostBoxes (x .pictures) (z .pictures) (each-told (pictureFormat .Good) zero-picture good-no-picture (x .pictures) (t .0)),
+      (z .ticket, (v .1 .0, good-no-name (x .film) (t .1 .1 .0) (z .film))),
+    )
+
+pub good-queue : (n : Numbers) (q : Queue) → n .serial ≤ noneLeft → n .picture ≤ noneLeft → queueSound n q ≡ true → QueueSized q → queueFormat .Good q
+unfolding queueFormat entriesOf
+good-queue n q h k e z =
+    let t = queue-facts n q e in
+    let few = leb-true (q .count) mostEntries (t .count) in
+    let front = take (q .count) (q .entries) in
+    let behind = drop (q .count) (q .entries) in (
+      omega arith,
+      good-array entryFormat mostEntries (q .entries) (z .entries)
+          (each-join (entryFormat .Good) (q .count) (q .entries)
+          (each-so EntrySized (entrySound n) (entryFormat .Good) (λ x. good-entry n x h k) front (t .entries) (each-take EntrySized (q .count) (q .entries) (z .each)))
+          (each-so EntrySized entryBlank (entryFormat .Good) good-no-entry behind (t .behind) (each-drop EntrySized (q .count) (q .entries) (z .each)))),
+    )
+
+-- What open fixed.
+
+opened-cases : (o : Opened) (closed : Bool) → o .live ≤ 1 → pick closed (zeros (o .context ∷ o .syntax ∷ o .room ∷ [])) (openSound o) ≡ true → openedFormat .Good o
+unfolding openedFormat
+opened-cases o true h e =
+    let v = zero-bytes (o .context ∷ o .syntax ∷ o .room ∷ []) e in
+    (omega arith, (v .0, (v .1 .0, omega (arith, v .1 .1 .0))))
+opened-cases o false h e =
+    let t = all-true (eqb (o .context % 2) 1 ∷ leb (o .context) 255 ∷ between 1 2 (o .syntax) ∷ between leastRoom mostRoom (o .room) ∷ []) e in
+    let context = leb-true (o .context) 255 (t .1 .0) in
+    let syntax = between-true 1 2 (o .syntax) (t .1 .1 .0) .1 in
+    let room = between-true leastRoom mostRoom (o .room) (t .1 .1 .1 .0) .1 in
+    (omega arith, (omega arith, (omega arith, omega arith)))
+
+pub good-opened : (o : Opened) → openedSound o ≡ true → openedFormat .Good o
+unfolding openedSound
+good-opened o e =
+    let t = both-true (flag (o .live)) (pick (eqb (o .live) 0) (zeros (o .context ∷ o .syntax ∷ o .room ∷ [])) (openSound o)) e in
+    opened-cases o (eqb (o .live) 0) (leb-true (o .live) 1 (t .0)) (t .1)
+
+-- The core.
+
+pub good-core : (k : Core) → coreSound k ≡ true → Sized k → coreFormat .Good k
+unfolding coreFormat
+good-core k e z =
+    let f = core-facts k e in
+    let n = numbers-facts (k .numbers) (f .numbers) in
+    let serial = between-true 1 noneLeft (k .numbers .serial) (n .serial) .1 in
+    let picture = between-true 1 noneLeft (k .numbers .picture) (n .picture) .1 in (
+      good-numbers (k .numbers) (f .numbers) (z .numbers),
+      (
+        good-session (k .numbers) (k .session) serial (f .live) (f .session) (z .session),
+        (
+          good-shelf (k .numbers) (k .session) (k .shelf) serial picture (f .shelf) (z .shelf),
+          (good-queue (k .numbers) (k .queue) serial picture (f .queue) (z .queue), good-opened (k .opened) (f .opened)),
+        ),
+      ),
+    )
+
+-- whatever input stands behind it
+pub core-back : (k : Core) (i : Input) → coreSound k ≡ true → Sized k → unpack (pack (record { core = k; input = i })) .core ≡ k
+core-back k i e z = core-unpacked (record { core = k; input = i }) (good-core k e z)
+
+-- The input.
+
+pub bytes-each : (s : List ℕ) → Bytes s → Each Byte s
+bytes-each [] o = tt
+bytes-each (c ∷ s) o = (o 0, bytes-each s (λ i. o (suc i)))
+
+abbrev pub CommandFits : List ℕ → Type 0
+CommandFits c = (length c ≤ commandLimit) × Each Byte c
+
+abbrev pub InputFits : machine.Input → Type 0
+InputFits idle = Unit {0}
+InputFits (inCommand c) = CommandFits c
+InputFits skippingCommand = Unit {0}
+InputFits (inData c d) = CommandFits c × (length d ≤ mostRoom)
+InputFits (skippingData c) = CommandFits c
+
+held-fits : (phase : ℕ) (c : List ℕ) (got : ℕ) → phase < 256 → CommandFits c → got ≤ mostRoom → inputFormat .Good (held phase c got)
+unfolding inputFormat
+held-fits phase c got h f k =
+    let short = f .0 in
+    (h, (omega arith, (omega arith, good-array byte commandLimit (filledTo commandLimit 0 c) (filled-length commandLimit 0 c short) (each-filled Byte commandLimit 0 c (f .1) (omega arith)))))
+
+pub good-input : (i : machine.Input) → InputFits i → inputFormat .Good (inputHeld i)
+unfolding inputHeld
+good-input idle f = held-fits 0 [] 0 (omega arith) (omega arith, tt) (omega arith)
+good-input (inCommand c) f = held-fits 1 c 0 (omega arith) f (omega arith)
+good-input skippingCommand f = held-fits 2 [] 0 (omega arith) (omega arith, tt) (omega arith)
+good-input (inData c d) f = held-fits 3 c (length d) (omega arith) (f .0) (f .1)
+good-input (skippingData c) f = held-fits 4 c 0 (omega arith) f (omega arith)
+
+-- The whole.
+
+pub good-state : (r : Records Core) → coreSound (r .core) ≡ true → Sized (r .core) → InputFits (r .input) → stateFormat .Good (stateOf r)
+unfolding stateFormat
+good-state r e z f = (good-core (r .core) e z, good-input (r .input) f)
+
+pub state-back : (r : Records Core) → coreSound (r .core) ≡ true → Sized (r .core) → InputFits (r .input) → unpack (pack (stateOf r)) ≡ stateOf r
+state-back r e z f = unpack-pack (stateOf r) (good-state r e z f)
+
+-- what a call wrote, the next call unpacks
+pub written-back : (r : Records Core) (b : List ℕ) → recordsSize ≤ length b → coreSound (r .core) ≡ true → Sized (r .core) → InputFits (r .input) → unpack (written r b) ≡ stateOf r
+unfolding written unpack pack write
+written-back r b h e z f = read-write state-laws (stateOf r) b 0 (good-state r e z f) (omega (arith, records-size))

@@ -1,0 +1,129 @@
+-- Demand 3 at work: a run of the book's own calls, whole and without four of its messages, computed.
+-- Assumes nothing.
+use mathlib.Core.Path.{_≡_, refl}
+use mathlib.Core.Bool.{Bool}
+use mathlib.Core.List.{List, [], _∷_, map}
+use Prim.Native.Nat.{ℕ}
+use lib.Dec.{eqb, ltb}
+use lib.ListN.{length}
+use Rattle.choice.specs.Pick.{either}
+use Rattle.strike.specs.Service.{Call, feed, aside}
+use Rattle.strike.specs.Machine.{headerWrong, fragmentIn, skips, reads, gathers, overflows, stores, collect, laidBy, answered, carriedOut, fed, checked, step, laidIf, messageAfter}
+use Rattle.strike.specs.Machine as machine
+use Rattle.strike.specs.Machine.{Input, idle, inData, Records, Answer}
+use Rattle.strike.specs.Messages.{mayBegin, unfinished, roleOfFragment, countAfter, messageOf, cutBy, struck, without, strikeable, says, isOf, fateOf, roleIf, roleOf, eventOf, historyFrom, history, answers, after}
+use Rattle.strike.specs.Messages.{succeeded, failed, wasDropped, wasCutOff, callsOf}
+use Rattle.rules.specs.declared.Core.{Core}
+use Rattle.rules.specs.Responses.{Reply}
+use Rattle.rules.specs.Calls.{Handed, printing, check, started, opened, closed, pictureBytes, entryBytes, taken, reading}
+use Rattle.rules.proofs.Stage.{nothingLive}
+use Rattle.octets.specs.Octets.{numberAt, bigNumberAt, octets, same}
+use Rattle.uids.specs.Uids.{digits, component, components, isUid, unpadded, beginsWith, lastDigits, decimal, made}
+use Rattle.headers.specs.Table.{namedVr, formOf, implicitVr, differs}
+use Rattle.headers.specs.Header.{tagAt, sizeAt, vrAt, lengthAt, vrWrong, lengthHead, headAt, itemHeadAt, closeAt}
+use Rattle.elements.specs.Find.{elementsFrom, itemsOf, findAt, itemsAt}
+use Rattle.elements.specs.Walk.{walk, trail}
+use Rattle.elements.specs.Reader.{listStep, listFrom, itemWith, itemStep, itemsFrom, elementAt, listAt, itemAt, dataSet}
+use Rattle.writing.specs.Bytes.{padded, tagOctets, vrOctets, headerSize, plain, header, element, written, writtenItems}
+use Rattle.rules.specs.Effects.{sessionCreated, newFilm, filmCreated, sessionSet, filmSet, boxSet, sessionDeleted, filmDeleted, pictureOn, entryOf, entriesFor, ticketAfter, printed, filledBoxes}
+use Rattle.rules.specs.Checks.{classOf, generalRules, createRules, targetRules, createPlan, setPlan, actionPlan, deletePlan, planOf, decideRequest, decide}
+use Rattle.rules.specs.Text.{chars}
+use Rattle.rules.specs.Lists.{every, any, placeOf, apart, sum, from}
+use Rattle.rules.specs.Commands.{bytesOf, uidAt, groupZero, lengthTold, wellFormed, hasData, requestIn, understood}
+use Rattle.rules.specs.Records.{rootOf, uidOf, boxCount, boxesOf, filmsOf, shelved, entriesOf, queued, boxUids, named}
+use Rattle.rules.specs.Responses.{responseElements, responseTree, reply, boxItems, filmTree}
+use Rattle.rules.specs.Values.{withoutLeading, withoutTrailing, trimmed, blank, withoutPlus, decimalValue, countIn, codeIn, labelAllowed, standard, countsIn}
+use Rattle.rules.specs.Attributes.{sessionStandings, sessionWith, optionalFilm, filmCreateStandings, filmSetStandings, filmWith, layoutIn, imageStandings, imageIn, boxStandings, boxWith}
+
+-- N-CREATE of session 1.2.3, whole
+abbrev makes : List ℕ
+makes =
+    0x00 ∷ 0x00 ∷ 0x00 ∷ 0x58 ∷ 0x01 ∷ 0x03 ∷ 0x00 ∷ 0x00 ∷ 0x00 ∷ 0x00 ∷ 0x04 ∷ 0x00 ∷ 0x00 ∷ 0x00 ∷ 0x4A ∷ 0x00
+    ∷ 0x00 ∷ 0x00 ∷ 0x00 ∷ 0x00 ∷ 0x02 ∷ 0x00 ∷ 0x16 ∷ 0x00 ∷ 0x00 ∷ 0x00 ∷ 0x31 ∷ 0x2E ∷ 0x32 ∷ 0x2E ∷ 0x38 ∷ 0x34
+    ∷ 0x30 ∷ 0x2E ∷ 0x31 ∷ 0x30 ∷ 0x30 ∷ 0x30 ∷ 0x38 ∷ 0x2E ∷ 0x35 ∷ 0x2E ∷ 0x31 ∷ 0x2E ∷ 0x31 ∷ 0x2E ∷ 0x31 ∷ 0x00
+    ∷ 0x00 ∷ 0x00 ∷ 0x00 ∷ 0x01 ∷ 0x02 ∷ 0x00 ∷ 0x00 ∷ 0x00 ∷ 0x40 ∷ 0x01 ∷ 0x00 ∷ 0x00 ∷ 0x10 ∷ 0x01 ∷ 0x02 ∷ 0x00
+    ∷ 0x00 ∷ 0x00 ∷ 0x01 ∷ 0x00 ∷ 0x00 ∷ 0x00 ∷ 0x00 ∷ 0x08 ∷ 0x02 ∷ 0x00 ∷ 0x00 ∷ 0x00 ∷ 0x01 ∷ 0x01 ∷ 0x00 ∷ 0x00
+    ∷ 0x00 ∷ 0x10 ∷ 0x06 ∷ 0x00 ∷ 0x00 ∷ 0x00 ∷ 0x31 ∷ 0x2E ∷ 0x32 ∷ 0x2E ∷ 0x33 ∷ 0x00 ∷ []
+
+-- N-SET of session 1.2.3, whose data set follows
+abbrev sets : List ℕ
+sets =
+    0x00 ∷ 0x00 ∷ 0x00 ∷ 0x58 ∷ 0x01 ∷ 0x03 ∷ 0x00 ∷ 0x00 ∷ 0x00 ∷ 0x00 ∷ 0x04 ∷ 0x00 ∷ 0x00 ∷ 0x00 ∷ 0x4A ∷ 0x00
+    ∷ 0x00 ∷ 0x00 ∷ 0x00 ∷ 0x00 ∷ 0x03 ∷ 0x00 ∷ 0x16 ∷ 0x00 ∷ 0x00 ∷ 0x00 ∷ 0x31 ∷ 0x2E ∷ 0x32 ∷ 0x2E ∷ 0x38 ∷ 0x34
+    ∷ 0x30 ∷ 0x2E ∷ 0x31 ∷ 0x30 ∷ 0x30 ∷ 0x30 ∷ 0x38 ∷ 0x2E ∷ 0x35 ∷ 0x2E ∷ 0x31 ∷ 0x2E ∷ 0x31 ∷ 0x2E ∷ 0x31 ∷ 0x00
+    ∷ 0x00 ∷ 0x00 ∷ 0x00 ∷ 0x01 ∷ 0x02 ∷ 0x00 ∷ 0x00 ∷ 0x00 ∷ 0x20 ∷ 0x01 ∷ 0x00 ∷ 0x00 ∷ 0x10 ∷ 0x01 ∷ 0x02 ∷ 0x00
+    ∷ 0x00 ∷ 0x00 ∷ 0x01 ∷ 0x00 ∷ 0x00 ∷ 0x00 ∷ 0x00 ∷ 0x08 ∷ 0x02 ∷ 0x00 ∷ 0x00 ∷ 0x00 ∷ 0x01 ∷ 0x00 ∷ 0x00 ∷ 0x00
+    ∷ 0x01 ∷ 0x10 ∷ 0x06 ∷ 0x00 ∷ 0x00 ∷ 0x00 ∷ 0x31 ∷ 0x2E ∷ 0x32 ∷ 0x2E ∷ 0x33 ∷ 0x00 ∷ []
+
+-- four bytes of data, not the last
+abbrev someData : List ℕ
+someData =
+    0x00 ∷ 0x00 ∷ 0x00 ∷ 0x06 ∷ 0x01 ∷ 0x00 ∷ 0x00 ∷ 0x20 ∷ 0x10 ∷ 0x00 ∷ []
+
+-- a command that is not readable
+abbrev nonsense : List ℕ
+nonsense =
+    0x00 ∷ 0x00 ∷ 0x00 ∷ 0x04 ∷ 0x01 ∷ 0x03 ∷ 0x00 ∷ 0x00 ∷ []
+
+-- data that no message waits for
+abbrev stray : List ℕ
+stray =
+    0x00 ∷ 0x00 ∷ 0x00 ∷ 0x02 ∷ 0x01 ∷ 0x02 ∷ []
+
+-- buffers just long enough, and with a command buffer that is too short
+abbrev lent : ℕ → Handed
+lent command = record { root = []; serial = 0; picture = 0; context = 0; syntax = 0; message = 4096; command = command; dataSet = 8192; report = 20; entry = 212 }
+
+-- Six messages, with a take and a refused feed among them. Message 2 fails; 3 is cut off by 4, which is dropped; 5 is cut off by 6, which
+-- fails.
+abbrev calls : List (Call Handed)
+calls =
+    feed makes (lent 256)
+    ∷ feed makes (lent 256)
+    ∷ aside (lent 256)
+    ∷ feed sets (lent 256)
+    ∷ feed someData (lent 255)
+    ∷ feed someData (lent 256)
+    ∷ feed nonsense (lent 256)
+    ∷ feed stray (lent 256)
+    ∷ feed sets (lent 256)
+    ∷ feed makes (lent 256)
+    ∷ []
+
+abbrev before : Records Core
+before = record { core = nothingLive; input = idle }
+
+-- messages 2, 4, 5 and 6 are struck; 3, which 4 had cut off, is kept
+abbrev struckOut : ℕ → Bool
+struckOut n = either (eqb n 2) (ltb 3 n)
+
+abbrev left : List (Call Handed)
+left = callsOf (without struckOut (history printing before calls))
+
+-- an answer by its number, or a response by its status
+abbrev told : Answer Reply (List ℕ) → ℕ
+told (machine.refused n) = n
+told machine.done = 0
+told (machine.told t) = 0
+told machine.ignored = 18
+told machine.wait = 16
+told machine.dropped = 17
+told (machine.failure r d) = r .status
+told (machine.success r d) = r .status
+
+-- how many bytes of data wait in a message
+abbrev waiting : Input → ℕ
+waiting machine.idle = 0
+waiting (machine.inCommand c) = 0
+waiting machine.skippingCommand = 0
+waiting (inData c d) = length d
+waiting (machine.skippingData c) = 0
+
+pub run-at-work :
+    (map told (answers printing before calls) ≡ 0x0000 ∷ 0x0111 ∷ 6 ∷ 16 ∷ 2 ∷ 16 ∷ 17 ∷ 18 ∷ 16 ∷ 0x0111 ∷ [])
+    × (map (λ (n : ℕ). fateOf n (history printing before calls)) (1 ∷ 2 ∷ 3 ∷ 4 ∷ 5 ∷ 6 ∷ []) ≡ succeeded ∷ failed ∷ wasCutOff ∷ wasDropped ∷ wasCutOff ∷ failed ∷ [])
+    × (map told (answers printing before left) ≡ 0x0000 ∷ 6 ∷ 16 ∷ 2 ∷ 16 ∷ [])
+    × (waiting (after printing before calls .input) ≡ 0)
+    × (waiting (after printing before left .input) ≡ 4)
+unfolding numberAt bigNumberAt octets same digits component components isUid unpadded beginsWith lastDigits decimal made namedVr formOf implicitVr differs tagAt sizeAt vrAt lengthAt vrWrong lengthHead headAt itemHeadAt closeAt elementsFrom itemsOf findAt itemsAt walk trail listStep listFrom itemWith itemStep itemsFrom elementAt listAt itemAt dataSet padded tagOctets vrOctets headerSize plain header element written writtenItems sessionCreated newFilm filmCreated sessionSet filmSet boxSet sessionDeleted filmDeleted pictureOn entryOf entriesFor ticketAfter printed filledBoxes classOf generalRules createRules targetRules createPlan setPlan actionPlan deletePlan planOf decideRequest decide chars every any placeOf apart sum from bytesOf uidAt groupZero lengthTold wellFormed hasData requestIn understood rootOf uidOf boxCount boxesOf filmsOf shelved entriesOf queued boxUids named responseElements responseTree reply boxItems filmTree withoutLeading withoutTrailing trimmed blank withoutPlus decimalValue countIn codeIn labelAllowed standard countsIn sessionStandings sessionWith optionalFilm filmCreateStandings filmSetStandings filmWith layoutIn imageStandings imageIn boxStandings boxWith headerWrong fragmentIn skips reads gathers overflows stores collect laidBy answered carriedOut fed checked step laidIf messageAfter mayBegin unfinished roleOfFragment countAfter messageOf cutBy struck without strikeable says isOf fateOf roleIf roleOf eventOf historyFrom history answers after check started opened closed pictureBytes entryBytes taken reading
+run-at-work = (refl, refl, refl, refl, refl)

@@ -1,0 +1,2 @@
+-- How each struct is written, field by field.
+mod Steps

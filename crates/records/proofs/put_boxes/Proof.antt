@@ -1,0 +1,50 @@
+use Prim.Native.Nat.{_-_, _≤_}
+use mathlib.Core.Path.{_≡_, refl}
+use denote.Ref.{now}
+use lib.ListN.{length}
+use Rattle.fields.specs.Format.{write, array}
+use Rattle.fields.proofs.Turns.{write-none, write-turn, write-done}
+use Rattle.rules.specs.Layout.{boxFormat, pictureFormat}
+use Rattle.records.proofs.Steps.{box-steps}
+use borrow.Author.Needs.{needs}
+use Rattle.records.proofs.put_boxes.Statement.{statement}
+use Rattle.records.proofs.put_boxes.Tie as tie
+
+abbrev Inv-loop : tie.InvT-loop
+Inv-loop s₀ p xs i₀ s i = (i ≤ 36) × (length s ≡ length s₀) × (s ≡ write (array i boxFormat) xs s₀ p)
+
+abbrev μ-loop : tie.MeasureT-loop
+μ-loop s₀ p xs i₀ s i = 36 - i
+
+loop-holds : tie.Need-loop-holds Inv-loop μ-loop
+loop-holds c = let a = c .before .args in
+    (search needs, refl, write-none boxFormat (now (a .s)) (a .p) (a .a))
+
+loop-again : tie.Need-loop-again Inv-loop μ-loop
+unfolding boxFormat pictureFormat
+loop-again c = let o = c .before .before .before .before .before .before .loop in
+    let a = c .before .before .before .before .before .before .before .before .args in
+    (search needs, search needs, write-turn (box-steps .laws) (now (a .s)) (o .s) (c .before .before .put-image-box .last .0) (a .p) (o .i) (a .a) (search needs) (c .before .before .put-image-box .ensures) (o .inv .2))
+
+returns : tie.Need-returns Inv-loop μ-loop
+returns c = let o = c .before .loop in
+    let a = c .before .before .before .args in
+    write-done boxFormat (now (a .s)) (o .s) (a .p) 36 (o .i) (a .a) (c .loop-test .left) (o .inv .0) (o .inv .2)
+
+pub put-boxes-spec : {M : Type 1} → statement M
+put-boxes-spec =
+    tie.close
+    (tie.spec
+    Inv-loop
+    μ-loop
+    loop-holds
+    (λ c. search needs)
+    (λ c. search needs)
+    (λ c. search needs)
+    (λ c. search needs)
+    (λ c κs. search needs)
+    (λ c. search needs)
+    (λ c. search needs)
+    loop-again
+    (λ c. search needs)
+    returns)

@@ -1,0 +1,570 @@
+// Records: the records' structs, read from their bytes and written to them, as the book's formats say.
+use rules::Core;
+use rules::Entry;
+use rules::Film;
+use rules::ImageBox;
+use rules::Input;
+use rules::Layout;
+use rules::Name;
+use rules::Numbers;
+use rules::Opened;
+use rules::Picture;
+use rules::Queue;
+use rules::Serial;
+use rules::Session;
+use rules::Shelf;
+use rules::State;
+ghost use mathlib.Core.Path.{_≡_};
+ghost use Prim.Native.Nat.{_+_, _≤_};
+ghost use lib.ListN.{length};
+ghost use Rattle.fields.specs.Format.{write, array};
+ghost use Rattle.rules.specs.Layout.{serialFormat, pictureFormat, nameFormat, boxFormat, layoutFormat, sessionFormat, numbersFormat, openedFormat, inputFormat, filmFormat, shelfFormat, entryFormat, queueFormat, coreFormat, stateFormat};
+
+pub fn serial_at(s: &[u8], p: usize) -> Serial
+    requires { ⌜ p + 4 ≤ length (now s) ⌝ }
+    ensures { λ r. ⌜ r ≡ serialFormat .read (now (s .entry)) p ⌝ }
+{
+    Serial(fields::u32_at(s, p))
+}
+
+pub fn put_serial(s: &mut [u8], p: usize, x: Serial)
+    requires { ⌜ p + 4 ≤ length (now s) ⌝ }
+    ensures { λ _. ⌜ now (s .exit) ≡ write serialFormat x (now (s .entry)) p ⌝ }
+{
+    fields::put_number(s, p, 4, x.0 as u64);
+}
+
+pub fn picture_at(s: &[u8], p: usize) -> Picture
+    requires { ⌜ p + 4 ≤ length (now s) ⌝ }
+    ensures { λ r. ⌜ r ≡ pictureFormat .read (now (s .entry)) p ⌝ }
+{
+    Picture(fields::u32_at(s, p))
+}
+
+pub fn put_picture(s: &mut [u8], p: usize, x: Picture)
+    requires { ⌜ p + 4 ≤ length (now s) ⌝ }
+    ensures { λ _. ⌜ now (s .exit) ≡ write pictureFormat x (now (s .entry)) p ⌝ }
+{
+    fields::put_number(s, p, 4, x.0 as u64);
+}
+
+pub fn name_at(s: &[u8], p: usize) -> Name
+    requires { ⌜ p + 69 ≤ length (now s) ⌝ }
+    ensures { λ r. ⌜ r ≡ nameFormat .read (now (s .entry)) p ⌝ }
+{
+    let made = serial_at(s, p);
+    let p1 = p + 4;
+    let used = s[p1];
+    let p2 = p1 + 1;
+    let text = fields::bytes64_at(s, p2);
+    Name { made, used, text }
+}
+
+pub fn put_name(s: &mut [u8], p: usize, x: Name)
+    requires { ⌜ p + 69 ≤ length (now s) ⌝ }
+    ensures { λ _. ⌜ now (s .exit) ≡ write nameFormat x (now (s .entry)) p ⌝ }
+{
+    let made = x.made;
+    put_serial(s, p, made);
+    let p1 = p + 4;
+    fields::put_byte(s, p1, x.used);
+    let p2 = p1 + 1;
+    let text = x.text;
+    fields::put_bytes64(s, p2, text);
+}
+
+pub fn image_box_at(s: &[u8], p: usize) -> ImageBox
+    requires { ⌜ p + 6 ≤ length (now s) ⌝ }
+    ensures { λ r. ⌜ r ≡ boxFormat .read (now (s .entry)) p ⌝ }
+{
+    let position = s[p];
+    let p1 = p + 1;
+    let polarity = s[p1];
+    let p2 = p1 + 1;
+    let picture = picture_at(s, p2);
+    ImageBox {
+        position,
+        polarity,
+        picture,
+    }
+}
+
+pub fn put_image_box(s: &mut [u8], p: usize, x: ImageBox)
+    requires { ⌜ p + 6 ≤ length (now s) ⌝ }
+    ensures { λ _. ⌜ now (s .exit) ≡ write boxFormat x (now (s .entry)) p ⌝ }
+{
+    fields::put_byte(s, p, x.position);
+    let p1 = p + 1;
+    fields::put_byte(s, p1, x.polarity);
+    let p2 = p1 + 1;
+    let picture = x.picture;
+    put_picture(s, p2, picture);
+}
+
+pub fn layout_at(s: &[u8], p: usize) -> Layout
+    requires { ⌜ p + 7 ≤ length (now s) ⌝ }
+    ensures { λ r. ⌜ r ≡ layoutFormat .read (now (s .entry)) p ⌝ }
+{
+    let lines = s[p];
+    let p1 = p + 1;
+    let counts = fields::bytes6_at(s, p1);
+    Layout { lines, counts }
+}
+
+pub fn put_layout(s: &mut [u8], p: usize, x: Layout)
+    requires { ⌜ p + 7 ≤ length (now s) ⌝ }
+    ensures { λ _. ⌜ now (s .exit) ≡ write layoutFormat x (now (s .entry)) p ⌝ }
+{
+    fields::put_byte(s, p, x.lines);
+    let p1 = p + 1;
+    let counts = x.counts;
+    fields::put_bytes6(s, p1, counts);
+}
+
+pub fn session_at(s: &[u8], p: usize) -> Session
+    requires { ⌜ p + 139 ≤ length (now s) ⌝ }
+    ensures { λ r. ⌜ r ≡ sessionFormat .read (now (s .entry)) p ⌝ }
+{
+    let live = s[p];
+    let p1 = p + 1;
+    let name = name_at(s, p1);
+    let p2 = p1 + 69;
+    let copies = s[p2];
+    let p3 = p2 + 1;
+    let priority = s[p3];
+    let p4 = p3 + 1;
+    let medium = s[p4];
+    let p5 = p4 + 1;
+    let destination = s[p5];
+    let p6 = p5 + 1;
+    let used = s[p6];
+    let p7 = p6 + 1;
+    let label = fields::bytes64_at(s, p7);
+    Session {
+        live,
+        name,
+        copies,
+        priority,
+        medium,
+        destination,
+        used,
+        label,
+    }
+}
+
+pub fn put_session(s: &mut [u8], p: usize, x: Session)
+    requires { ⌜ p + 139 ≤ length (now s) ⌝ }
+    ensures { λ _. ⌜ now (s .exit) ≡ write sessionFormat x (now (s .entry)) p ⌝ }
+{
+    fields::put_byte(s, p, x.live);
+    let p1 = p + 1;
+    let name = x.name;
+    put_name(s, p1, name);
+    let p2 = p1 + 69;
+    fields::put_byte(s, p2, x.copies);
+    let p3 = p2 + 1;
+    fields::put_byte(s, p3, x.priority);
+    let p4 = p3 + 1;
+    fields::put_byte(s, p4, x.medium);
+    let p5 = p4 + 1;
+    fields::put_byte(s, p5, x.destination);
+    let p6 = p5 + 1;
+    fields::put_byte(s, p6, x.used);
+    let p7 = p6 + 1;
+    let label = x.label;
+    fields::put_bytes64(s, p7, label);
+}
+
+pub fn numbers_at(s: &[u8], p: usize) -> Numbers
+    requires { ⌜ p + 53 ≤ length (now s) ⌝ }
+    ensures { λ r. ⌜ r ≡ numbersFormat .read (now (s .entry)) p ⌝ }
+{
+    let used = s[p];
+    let p1 = p + 1;
+    let root = fields::bytes40_at(s, p1);
+    let p2 = p1 + 40;
+    let serial = octets::number_at(s, p2, 5);
+    let p3 = p2 + 5;
+    let picture = octets::number_at(s, p3, 5);
+    let p4 = p3 + 5;
+    let ticket = fields::u16_at(s, p4);
+    Numbers {
+        used,
+        root,
+        serial,
+        picture,
+        ticket,
+    }
+}
+
+pub fn put_numbers(s: &mut [u8], p: usize, x: Numbers)
+    requires { ⌜ p + 53 ≤ length (now s) ⌝ }
+    ensures { λ _. ⌜ now (s .exit) ≡ write numbersFormat x (now (s .entry)) p ⌝ }
+{
+    fields::put_byte(s, p, x.used);
+    let p1 = p + 1;
+    let root = x.root;
+    fields::put_bytes40(s, p1, root);
+    let p2 = p1 + 40;
+    fields::put_number(s, p2, 5, x.serial);
+    let p3 = p2 + 5;
+    fields::put_number(s, p3, 5, x.picture);
+    let p4 = p3 + 5;
+    fields::put_number(s, p4, 2, x.ticket as u64);
+}
+
+pub fn opened_at(s: &[u8], p: usize) -> Opened
+    requires { ⌜ p + 7 ≤ length (now s) ⌝ }
+    ensures { λ r. ⌜ r ≡ openedFormat .read (now (s .entry)) p ⌝ }
+{
+    let live = s[p];
+    let p1 = p + 1;
+    let context = s[p1];
+    let p2 = p1 + 1;
+    let syntax = s[p2];
+    let p3 = p2 + 1;
+    let room = fields::u32_at(s, p3);
+    Opened {
+        live,
+        context,
+        syntax,
+        room,
+    }
+}
+
+pub fn put_opened(s: &mut [u8], p: usize, x: Opened)
+    requires { ⌜ p + 7 ≤ length (now s) ⌝ }
+    ensures { λ _. ⌜ now (s .exit) ≡ write openedFormat x (now (s .entry)) p ⌝ }
+{
+    fields::put_byte(s, p, x.live);
+    let p1 = p + 1;
+    fields::put_byte(s, p1, x.context);
+    let p2 = p1 + 1;
+    fields::put_byte(s, p2, x.syntax);
+    let p3 = p2 + 1;
+    fields::put_number(s, p3, 4, x.room as u64);
+}
+
+pub fn input_at(s: &[u8], p: usize) -> Input
+    requires { ⌜ p + 1031 ≤ length (now s) ⌝ }
+    ensures { λ r. ⌜ r ≡ inputFormat .read (now (s .entry)) p ⌝ }
+{
+    let phase = s[p];
+    let p1 = p + 1;
+    let used = fields::u16_at(s, p1);
+    let p2 = p1 + 2;
+    let got = fields::u32_at(s, p2);
+    let p3 = p2 + 4;
+    let command = fields::bytes1024_at(s, p3);
+    Input {
+        phase,
+        used,
+        got,
+        command,
+    }
+}
+
+pub fn put_input(s: &mut [u8], p: usize, x: Input)
+    requires { ⌜ p + 1031 ≤ length (now s) ⌝ }
+    ensures { λ _. ⌜ now (s .exit) ≡ write inputFormat x (now (s .entry)) p ⌝ }
+{
+    fields::put_byte(s, p, x.phase);
+    let p1 = p + 1;
+    fields::put_number(s, p1, 2, x.used as u64);
+    let p2 = p1 + 2;
+    fields::put_number(s, p2, 4, x.got as u64);
+    let p3 = p2 + 4;
+    let command = x.command;
+    fields::put_bytes1024(s, p3, command);
+}
+
+fn boxes_at(s: &[u8], p: usize) -> [ImageBox; 36]
+    requires { ⌜ p + 216 ≤ length (now s) ⌝ }
+    ensures { λ r. ⌜ r ≡ array 36 boxFormat .read (now (s .entry)) p ⌝ }
+{
+    let mut xs = [image_box_at(s, p); 36];
+    let mut i = 0;
+    while i < 36 {
+        let x = image_box_at(s, p + i * 6);
+        xs[i] = x;
+        i += 1;
+    }
+    xs
+}
+
+fn put_boxes(s: &mut [u8], p: usize, a: [ImageBox; 36])
+    requires { ⌜ p + 216 ≤ length (now s) ⌝ }
+    ensures { λ _. ⌜ now (s .exit) ≡ write (array 36 boxFormat) a (now (s .entry)) p ⌝ }
+{
+    let xs = a;
+    let mut i = 0;
+    while i < 36 {
+        let x = xs[i];
+        put_image_box(s, p + i * 6, x);
+        i += 1;
+    }
+}
+
+pub fn film_at(s: &[u8], p: usize) -> Film
+    requires { ⌜ p + 298 ≤ length (now s) ⌝ }
+    ensures { λ r. ⌜ r ≡ filmFormat .read (now (s .entry)) p ⌝ }
+{
+    let name = name_at(s, p);
+    let p1 = p + 69;
+    let layout = layout_at(s, p1);
+    let p2 = p1 + 7;
+    let orientation = s[p2];
+    let p3 = p2 + 1;
+    let magnification = s[p3];
+    let p4 = p3 + 1;
+    let first = serial_at(s, p4);
+    let p5 = p4 + 4;
+    let boxes = boxes_at(s, p5);
+    Film {
+        name,
+        layout,
+        orientation,
+        magnification,
+        first,
+        boxes,
+    }
+}
+
+pub fn put_film(s: &mut [u8], p: usize, x: Film)
+    requires { ⌜ p + 298 ≤ length (now s) ⌝ }
+    ensures { λ _. ⌜ now (s .exit) ≡ write filmFormat x (now (s .entry)) p ⌝ }
+{
+    let name = x.name;
+    put_name(s, p, name);
+    let p1 = p + 69;
+    let layout = x.layout;
+    put_layout(s, p1, layout);
+    let p2 = p1 + 7;
+    fields::put_byte(s, p2, x.orientation);
+    let p3 = p2 + 1;
+    fields::put_byte(s, p3, x.magnification);
+    let p4 = p3 + 1;
+    let first = x.first;
+    put_serial(s, p4, first);
+    let p5 = p4 + 4;
+    let boxes = x.boxes;
+    put_boxes(s, p5, boxes);
+}
+
+fn films_at(s: &[u8], p: usize) -> [Film; 8]
+    requires { ⌜ p + 2384 ≤ length (now s) ⌝ }
+    ensures { λ r. ⌜ r ≡ array 8 filmFormat .read (now (s .entry)) p ⌝ }
+{
+    let mut xs = [film_at(s, p); 8];
+    let mut i = 0;
+    while i < 8 {
+        let x = film_at(s, p + i * 298);
+        xs[i] = x;
+        i += 1;
+    }
+    xs
+}
+
+fn put_films(s: &mut [u8], p: usize, a: [Film; 8])
+    requires { ⌜ p + 2384 ≤ length (now s) ⌝ }
+    ensures { λ _. ⌜ now (s .exit) ≡ write (array 8 filmFormat) a (now (s .entry)) p ⌝ }
+{
+    let xs = a;
+    let mut i = 0;
+    while i < 8 {
+        let x = xs[i];
+        put_film(s, p + i * 298, x);
+        i += 1;
+    }
+}
+
+pub fn shelf_at(s: &[u8], p: usize) -> Shelf
+    requires { ⌜ p + 2385 ≤ length (now s) ⌝ }
+    ensures { λ r. ⌜ r ≡ shelfFormat .read (now (s .entry)) p ⌝ }
+{
+    let count = s[p];
+    let p1 = p + 1;
+    let films = films_at(s, p1);
+    Shelf { count, films }
+}
+
+pub fn put_shelf(s: &mut [u8], p: usize, x: Shelf)
+    requires { ⌜ p + 2385 ≤ length (now s) ⌝ }
+    ensures { λ _. ⌜ now (s .exit) ≡ write shelfFormat x (now (s .entry)) p ⌝ }
+{
+    fields::put_byte(s, p, x.count);
+    let p1 = p + 1;
+    let films = x.films;
+    put_films(s, p1, films);
+}
+
+fn pictures_at(s: &[u8], p: usize) -> [Picture; 36]
+    requires { ⌜ p + 144 ≤ length (now s) ⌝ }
+    ensures { λ r. ⌜ r ≡ array 36 pictureFormat .read (now (s .entry)) p ⌝ }
+{
+    let mut xs = [picture_at(s, p); 36];
+    let mut i = 0;
+    while i < 36 {
+        let x = picture_at(s, p + i * 4);
+        xs[i] = x;
+        i += 1;
+    }
+    xs
+}
+
+fn put_pictures(s: &mut [u8], p: usize, a: [Picture; 36])
+    requires { ⌜ p + 144 ≤ length (now s) ⌝ }
+    ensures { λ _. ⌜ now (s .exit) ≡ write (array 36 pictureFormat) a (now (s .entry)) p ⌝ }
+{
+    let xs = a;
+    let mut i = 0;
+    while i < 36 {
+        let x = xs[i];
+        put_picture(s, p + i * 4, x);
+        i += 1;
+    }
+}
+
+pub fn entry_at(s: &[u8], p: usize) -> Entry
+    requires { ⌜ p + 216 ≤ length (now s) ⌝ }
+    ensures { λ r. ⌜ r ≡ entryFormat .read (now (s .entry)) p ⌝ }
+{
+    let pictures = pictures_at(s, p);
+    let p1 = p + 144;
+    let ticket = fields::u16_at(s, p1);
+    let p2 = p1 + 2;
+    let copies = s[p2];
+    let p3 = p2 + 1;
+    let film = name_at(s, p3);
+    Entry {
+        pictures,
+        ticket,
+        copies,
+        film,
+    }
+}
+
+pub fn put_entry(s: &mut [u8], p: usize, x: Entry)
+    requires { ⌜ p + 216 ≤ length (now s) ⌝ }
+    ensures { λ _. ⌜ now (s .exit) ≡ write entryFormat x (now (s .entry)) p ⌝ }
+{
+    let pictures = x.pictures;
+    put_pictures(s, p, pictures);
+    let p1 = p + 144;
+    fields::put_number(s, p1, 2, x.ticket as u64);
+    let p2 = p1 + 2;
+    fields::put_byte(s, p2, x.copies);
+    let p3 = p2 + 1;
+    let film = x.film;
+    put_name(s, p3, film);
+}
+
+fn entries_at(s: &[u8], p: usize) -> [Entry; 16]
+    requires { ⌜ p + 3456 ≤ length (now s) ⌝ }
+    ensures { λ r. ⌜ r ≡ array 16 entryFormat .read (now (s .entry)) p ⌝ }
+{
+    let mut xs = [entry_at(s, p); 16];
+    let mut i = 0;
+    while i < 16 {
+        let x = entry_at(s, p + i * 216);
+        xs[i] = x;
+        i += 1;
+    }
+    xs
+}
+
+fn put_entries(s: &mut [u8], p: usize, a: [Entry; 16])
+    requires { ⌜ p + 3456 ≤ length (now s) ⌝ }
+    ensures { λ _. ⌜ now (s .exit) ≡ write (array 16 entryFormat) a (now (s .entry)) p ⌝ }
+{
+    let xs = a;
+    let mut i = 0;
+    while i < 16 {
+        let x = xs[i];
+        put_entry(s, p + i * 216, x);
+        i += 1;
+    }
+}
+
+pub fn queue_at(s: &[u8], p: usize) -> Queue
+    requires { ⌜ p + 3457 ≤ length (now s) ⌝ }
+    ensures { λ r. ⌜ r ≡ queueFormat .read (now (s .entry)) p ⌝ }
+{
+    let count = s[p];
+    let p1 = p + 1;
+    let entries = entries_at(s, p1);
+    Queue { count, entries }
+}
+
+pub fn put_queue(s: &mut [u8], p: usize, x: Queue)
+    requires { ⌜ p + 3457 ≤ length (now s) ⌝ }
+    ensures { λ _. ⌜ now (s .exit) ≡ write queueFormat x (now (s .entry)) p ⌝ }
+{
+    fields::put_byte(s, p, x.count);
+    let p1 = p + 1;
+    let entries = x.entries;
+    put_entries(s, p1, entries);
+}
+
+pub fn core_at(s: &[u8], p: usize) -> Core
+    requires { ⌜ p + 6041 ≤ length (now s) ⌝ }
+    ensures { λ r. ⌜ r ≡ coreFormat .read (now (s .entry)) p ⌝ }
+{
+    let numbers = numbers_at(s, p);
+    let p1 = p + 53;
+    let session = session_at(s, p1);
+    let p2 = p1 + 139;
+    let shelf = shelf_at(s, p2);
+    let p3 = p2 + 2385;
+    let queue = queue_at(s, p3);
+    let p4 = p3 + 3457;
+    let opened = opened_at(s, p4);
+    Core {
+        numbers,
+        session,
+        shelf,
+        queue,
+        opened,
+    }
+}
+
+pub fn put_core(s: &mut [u8], p: usize, x: Core)
+    requires { ⌜ p + 6041 ≤ length (now s) ⌝ }
+    ensures { λ _. ⌜ now (s .exit) ≡ write coreFormat x (now (s .entry)) p ⌝ }
+{
+    let numbers = x.numbers;
+    put_numbers(s, p, numbers);
+    let p1 = p + 53;
+    let session = x.session;
+    put_session(s, p1, session);
+    let p2 = p1 + 139;
+    let shelf = x.shelf;
+    put_shelf(s, p2, shelf);
+    let p3 = p2 + 2385;
+    let queue = x.queue;
+    put_queue(s, p3, queue);
+    let p4 = p3 + 3457;
+    let opened = x.opened;
+    put_opened(s, p4, opened);
+}
+
+pub fn state_at(s: &[u8], p: usize) -> State
+    requires { ⌜ p + 7072 ≤ length (now s) ⌝ }
+    ensures { λ r. ⌜ r ≡ stateFormat .read (now (s .entry)) p ⌝ }
+{
+    let core = core_at(s, p);
+    let p1 = p + 6041;
+    let input = input_at(s, p1);
+    State { core, input }
+}
+
+pub fn put_state(s: &mut [u8], p: usize, x: State)
+    requires { ⌜ p + 7072 ≤ length (now s) ⌝ }
+    ensures { λ _. ⌜ now (s .exit) ≡ write stateFormat x (now (s .entry)) p ⌝ }
+{
+    let core = x.core;
+    put_core(s, p, core);
+    let p1 = p + 6041;
+    let input = x.input;
+    put_input(s, p1, input);
+}
