@@ -2,8 +2,8 @@
 -- Assumes nothing.
 use Prim.Native.Nat.{ℕ, _+_, _≤_}
 use mathlib.Core.Path.{_≡_, ap, _∙_}
-use mathlib.Core.Bool.{Bool, true}
-use mathlib.Core.List.{List, [], _∷_}
+use mathlib.Core.Bool.{true}
+use mathlib.Core.List.{List}
 use native.Mathlib.Omega.{arith}
 use lib.Dec.{leb, ltb}
 use lib.ListN.{length, take, drop, length-take}
@@ -13,7 +13,6 @@ use Rattle.choice.proofs.Picks.{both-true, both-holds}
 use Rattle.octets.specs.Octets.{same}
 use Rattle.uids.specs.Uids.{isUid}
 use Rattle.rules.specs.Bounds.{mostFilms, mostEntries, rootLimit, noneLeft}
-use Rattle.rules.specs.declared.Picture.{Picture}
 use Rattle.rules.specs.declared.Session.{Session}
 use Rattle.rules.specs.declared.ImageBox.{ImageBox}
 use Rattle.rules.specs.declared.Film.{Film}
@@ -25,7 +24,7 @@ use Rattle.rules.specs.declared.Core.{Core}
 use Rattle.rules.specs.Lists.{every}
 use Rattle.rules.specs.Values.{trimmed, labelAllowed}
 use Rattle.rules.specs.Records.{rootOf, boxCount, boxesOf, filmsOf, entriesOf, isLive, shelved, queued}
-use Rattle.rules.specs.Sound.{between, zeros, flag, labelOf, nameSound, numbersSound, sessionSound, sessionBlank, layoutSound, boxSound, boxBlank, filmSound, filmBlank, shelfSound, entrySound, entryBlank, queueSound, uidsApart, openedSound, coreSound}
+use Rattle.rules.specs.Sound.{between, zeros, flag, nameSound, numbersSound, sessionSound, sessionBlank, layoutSound, boxSound, boxBlank, filmSound, filmBlank, shelfSound, entrySound, entryBlank, queueSound, uidsApart, openedSound, coreSound}
 use Rattle.promises.proofs.ListLaws.{all-true, all-holds, films-behind, entries-behind, films-shelved, entries-queued}
 
 pub between-true : (low high n : ℕ) → between low high n ≡ true → (low ≤ n) × (n ≤ high)
@@ -37,17 +36,6 @@ pub between-holds : (low high n : ℕ) → low ≤ n → n ≤ high → between 
 between-holds low high n h k = both-holds (leb low n) (leb n high) (le-leb low n h) (le-leb n high k)
 
 -- The core.
-
-abbrev coreTests : Core → List Bool
-coreTests k =
-    numbersSound (k .numbers)
-    ∷ flag (k .session .live)
-    ∷ pick (isLive (k .session)) (sessionSound (k .numbers) (k .session)) (sessionBlank (k .session))
-    ∷ shelfSound (k .numbers) (k .session) (k .shelf)
-    ∷ queueSound (k .numbers) (k .queue)
-    ∷ uidsApart (k .session) (filmsOf (k .shelf))
-    ∷ openedSound (k .opened)
-    ∷ []
 
 pub record CoreFacts (k : Core) : Type 0 where
   pub numbers : numbersSound (k .numbers) ≡ true
@@ -61,7 +49,7 @@ pub record CoreFacts (k : Core) : Type 0 where
 pub core-facts : (k : Core) → coreSound k ≡ true → CoreFacts k
 unfolding coreSound
 core-facts k e =
-    let t = all-true (coreTests k) e in
+    let t = all-true _ e in
     record {
       numbers = t .0;
       live = t .1 .0;
@@ -74,18 +62,9 @@ core-facts k e =
 
 pub core-sound : (k : Core) → CoreFacts k → coreSound k ≡ true
 unfolding coreSound
-core-sound k f = all-holds (coreTests k) (f .numbers, (f .live, (f .session, (f .shelf, (f .queue, (f .uids, (f .opened, tt)))))))
+core-sound k f = all-holds _ (f .numbers, (f .live, (f .session, (f .shelf, (f .queue, (f .uids, (f .opened, tt)))))))
 
 -- The numbers.
-
-abbrev numbersTests : Numbers → List Bool
-numbersTests n =
-    between 1 rootLimit (n .used)
-    ∷ isUid (rootOf n)
-    ∷ zeros (drop (n .used) (n .root))
-    ∷ between 1 noneLeft (n .serial)
-    ∷ between 1 noneLeft (n .picture)
-    ∷ []
 
 pub record NumbersFacts (n : Numbers) : Type 0 where
   pub used : between 1 rootLimit (n .used) ≡ true
@@ -97,21 +76,14 @@ pub record NumbersFacts (n : Numbers) : Type 0 where
 pub numbers-facts : (n : Numbers) → numbersSound n ≡ true → NumbersFacts n
 unfolding numbersSound
 numbers-facts n e =
-    let t = all-true (numbersTests n) e in
+    let t = all-true _ e in
     record { used = t .0; root = t .1 .0; behind = t .1 .1 .0; serial = t .1 .1 .1 .0; picture = t .1 .1 .1 .1 .0 }
 
 pub numbers-sound : (n : Numbers) → NumbersFacts n → numbersSound n ≡ true
 unfolding numbersSound
-numbers-sound n f = all-holds (numbersTests n) (f .used, (f .root, (f .behind, (f .serial, (f .picture, tt)))))
+numbers-sound n f = all-holds _ (f .used, (f .root, (f .behind, (f .serial, (f .picture, tt)))))
 
 -- The films.
-
-abbrev shelfTests : Numbers → Session → Shelf → List Bool
-shelfTests n s shelf =
-    leb (shelf .count) (pick (isLive s) mostFilms 0)
-    ∷ every (filmSound n) (filmsOf shelf)
-    ∷ every filmBlank (drop (shelf .count) (shelf .films))
-    ∷ []
 
 pub record ShelfFacts (n : Numbers) (s : Session) (shelf : Shelf) : Type 0 where
   pub count : leb (shelf .count) (pick (isLive s) mostFilms 0) ≡ true
@@ -121,12 +93,12 @@ pub record ShelfFacts (n : Numbers) (s : Session) (shelf : Shelf) : Type 0 where
 pub shelf-facts : (n : Numbers) (s : Session) (shelf : Shelf) → shelfSound n s shelf ≡ true → ShelfFacts n s shelf
 unfolding shelfSound
 shelf-facts n s shelf e =
-    let t = all-true (shelfTests n s shelf) e in
+    let t = all-true _ e in
     record { count = t .0; films = t .1 .0; behind = t .1 .1 .0 }
 
 pub shelf-sound : (n : Numbers) (s : Session) (shelf : Shelf) → ShelfFacts n s shelf → shelfSound n s shelf ≡ true
 unfolding shelfSound
-shelf-sound n s shelf f = all-holds (shelfTests n s shelf) (f .count, (f .films, (f .behind, tt)))
+shelf-sound n s shelf f = all-holds _ (f .count, (f .films, (f .behind, tt)))
 
 -- films on a shelf anew
 pub shelved-sound : (n : Numbers) (s : Session) (films : List Film) → length films ≤ pick (isLive s) mostFilms 0 → every (filmSound n) films ≡ true → shelfSound n s (shelved films) ≡ true
@@ -140,13 +112,6 @@ shelved-sound n s films h e =
 
 -- The queue.
 
-abbrev queueTests : Numbers → Queue → List Bool
-queueTests n q =
-    leb (q .count) mostEntries
-    ∷ every (entrySound n) (entriesOf q)
-    ∷ every entryBlank (drop (q .count) (q .entries))
-    ∷ []
-
 pub record QueueFacts (n : Numbers) (q : Queue) : Type 0 where
   pub count : leb (q .count) mostEntries ≡ true
   pub entries : every (entrySound n) (entriesOf q) ≡ true
@@ -155,12 +120,12 @@ pub record QueueFacts (n : Numbers) (q : Queue) : Type 0 where
 pub queue-facts : (n : Numbers) (q : Queue) → queueSound n q ≡ true → QueueFacts n q
 unfolding queueSound
 queue-facts n q e =
-    let t = all-true (queueTests n q) e in
+    let t = all-true _ e in
     record { count = t .0; entries = t .1 .0; behind = t .1 .1 .0 }
 
 pub queue-sound : (n : Numbers) (q : Queue) → QueueFacts n q → queueSound n q ≡ true
 unfolding queueSound
-queue-sound n q f = all-holds (queueTests n q) (f .count, (f .entries, (f .behind, tt)))
+queue-sound n q f = all-holds _ (f .count, (f .entries, (f .behind, tt)))
 
 -- entries queued anew
 pub queued-sound : (n : Numbers) (entries : List Entry) → length entries ≤ mostEntries → every (entrySound n) entries ≡ true → queueSound n (queued entries) ≡ true
@@ -203,19 +168,6 @@ pub record LabelFacts (used : ℕ) (label : List ℕ) : Type 0 where
   pub bare : same (trimmed (take used label)) (take used label) ≡ true
   pub behind : zeros (drop used label) ≡ true
 
-abbrev sessionTests : Numbers → Session → List Bool
-sessionTests n s =
-    nameSound n (s .name)
-    ∷ between 1 99 (s .copies)
-    ∷ leb (s .priority) 2
-    ∷ leb (s .medium) 2
-    ∷ leb (s .destination) 1
-    ∷ leb (s .used) 64
-    ∷ labelAllowed (labelOf s)
-    ∷ same (trimmed (labelOf s)) (labelOf s)
-    ∷ zeros (drop (s .used) (s .label))
-    ∷ []
-
 -- all but the name
 pub record ValueFacts (s : Session) : Type 0 where
   pub copies : between 1 99 (s .copies) ≡ true
@@ -226,7 +178,7 @@ pub record ValueFacts (s : Session) : Type 0 where
 
 pub session-facts : (n : Numbers) (s : Session) → sessionSound n s ≡ true → (nameSound n (s .name) ≡ true) × ValueFacts s
 session-facts n s e =
-    let t = all-true (sessionTests n s) e in (
+    let t = all-true _ e in (
       t .0,
       record {
         copies = t .1 .0;
@@ -244,7 +196,7 @@ session-facts n s e =
 
 pub session-sound : (n : Numbers) (s : Session) → nameSound n (s .name) ≡ true → ValueFacts s → sessionSound n s ≡ true
 session-sound n s e f =
-    all-holds (sessionTests n s)
+    all-holds _
     (e, (f .copies, (f .priority, (f .medium, (f .destination, (f .label .short, (f .label .allowed, (f .label .bare, (f .label .behind, tt)))))))))
 
 -- the session of the records, where it is live
@@ -252,21 +204,6 @@ pub live-facts : (n : Numbers) (s : Session) → pick (isLive s) (sessionSound n
 live-facts n s e l = session-facts n s (rw l at e)
 
 -- A film and its boxes.
-
-abbrev boxTests : ℕ → Numbers → ImageBox → List Bool
-boxTests boxes n b = between 1 boxes (b .position) ∷ flag (b .polarity) ∷ ltb (b .picture .0) (n .picture) ∷ []
-
-abbrev filmTests : Numbers → Film → List Bool
-filmTests n f =
-    nameSound n (f .name)
-    ∷ layoutSound (f .layout)
-    ∷ flag (f .orientation)
-    ∷ leb (f .magnification) 3
-    ∷ leb 1 (f .first .0)
-    ∷ leb (f .first .0 + boxCount (f .layout)) (n .serial)
-    ∷ every (boxSound (boxCount (f .layout)) n) (boxesOf f)
-    ∷ every boxBlank (drop (boxCount (f .layout)) (f .boxes))
-    ∷ []
 
 pub record FilmFacts (n : Numbers) (f : Film) : Type 0 where
   pub name : nameSound n (f .name) ≡ true
@@ -281,7 +218,7 @@ pub record FilmFacts (n : Numbers) (f : Film) : Type 0 where
 pub film-facts : (n : Numbers) (f : Film) → filmSound n f ≡ true → FilmFacts n f
 unfolding filmSound
 film-facts n f e =
-    let t = all-true (filmTests n f) e in
+    let t = all-true _ e in
     record {
       name = t .0;
       layout = t .1 .0;
@@ -296,20 +233,11 @@ film-facts n f e =
 pub film-sound : (n : Numbers) (f : Film) → FilmFacts n f → filmSound n f ≡ true
 unfolding filmSound
 film-sound n f t =
-    all-holds (filmTests n f)
+    all-holds _
     (t .name, (t .layout, (t .orientation, (t .magnification, (t .first, (t .last, (t .boxes, (t .behind, tt))))))))
 
 pub box-facts : (boxes : ℕ) (n : Numbers) (b : ImageBox) → boxSound boxes n b ≡ true → (between 1 boxes (b .position) ≡ true) × (flag (b .polarity) ≡ true) × (ltb (b .picture .0) (n .picture) ≡ true)
-box-facts boxes n b e = let t = all-true (boxTests boxes n b) e in (t .0, t .1 .0, t .1 .1 .0)
+box-facts boxes n b e = let t = all-true _ e in (t .0, t .1 .0, t .1 .1 .0)
 
 pub box-sound : (boxes : ℕ) (n : Numbers) (b : ImageBox) → between 1 boxes (b .position) ≡ true → flag (b .polarity) ≡ true → ltb (b .picture .0) (n .picture) ≡ true → boxSound boxes n b ≡ true
-box-sound boxes n b e f g = all-holds (boxTests boxes n b) (e, (f, (g, tt)))
-
--- An entry.
-
-abbrev pub entryTests : Numbers → Entry → List Bool
-entryTests n e =
-    every (λ (p : Picture). ltb (p .0) (n .picture)) (e .pictures)
-    ∷ between 1 99 (e .copies)
-    ∷ nameSound n (e .film)
-    ∷ []
+box-sound boxes n b e f g = all-holds _ (e, (f, (g, tt)))

@@ -23,7 +23,7 @@ use Rattle.rules.specs.Records.{rootOf, boxCount, boxesOf, isLive, filmsOf, ser
 use Rattle.rules.specs.Effects.{tooFewSerials}
 use Rattle.rules.specs.Sound.{numbersSound, nameSound, sentSound, madeSound, boxSound, filmSound, shelfSound, entrySound, queueSound, sessionSound, sessionBlank}
 use Rattle.promises.proofs.ListLaws.{all-true, all-holds, every-so}
-use Rattle.promises.proofs.Facts.{between-holds, numbers-facts, numbers-sound, counted, shelf-facts, shelf-sound, queue-facts, queue-sound, session-facts, session-sound, box-facts, box-sound, film-facts, film-sound, entryTests}
+use Rattle.promises.proofs.Facts.{between-holds, numbers-facts, numbers-sound, counted, shelf-facts, shelf-sound, queue-facts, queue-sound, session-facts, session-sound, box-facts, box-sound, film-facts, film-sound}
 
 -- numbers of the same root, none of them lower
 pub record Later (n m : Numbers) : Type 0 where
@@ -91,8 +91,8 @@ module _ (n m : Numbers) (later : Later n m) where
   pub entry-later : (x : Entry) → entrySound n x ≡ true → entrySound m x ≡ true
   unfolding entrySound
   entry-later x e =
-      let t = all-true (entryTests n x) e in
-      all-holds (entryTests m x) (
+      let t = all-true _ e in
+      all-holds _ (
         every-so (λ (p : Picture). ltb (p .0) (n .picture)) (λ (p : Picture). ltb (p .0) (m .picture)) (λ p. below-picture (p .0)) (x .pictures) (t .0),
         (t .1 .0, (name-later (x .film) (t .1 .1 .0), tt)),
       )
