@@ -1,83 +1,54 @@
 -- A box set keeps the rules of the records.
 -- Assumes nothing.
-use Prim.Native.Nat.{ℕ, zero, suc, _+_, _≤_, _<_}
+use Prim.Native.Nat.{ℕ, _+_, _<_}
 use mathlib.Core.Path.{_≡_, refl, sym, ap, _∙_}
 use mathlib.Core.Bool.{Bool, true, false}
-use mathlib.Core.List.{List, [], _∷_}
+use mathlib.Core.List.{List}
 use native.Mathlib.Omega.{arith}
 use lib.Dec.{leb, ltb}
-use lib.ListN.{length, getD, set, take, length-set, length-take}
-use lib.Seq.{take-set-lt, drop-set-lt, getD-take, map-set-same}
-use borrow.Author.Tests.{leb-true, lt-ltb, eqb-false}
-use Rattle.choice.specs.Pick.{pick, both}
-use Rattle.choice.proofs.Picks.{Kept, either-false, clash}
-use Rattle.elements.specs.declared.Found.{Found}
-use Rattle.elements.specs.declared.Found.the-variants.{Missing, Value, Sequence}
-use Rattle.rules.specs.Bounds.{mostFilms, noneLeft}
+use lib.ListN.{length, getD, set, take, length-set}
+use lib.Seq.{take-set-lt, drop-set-lt, getD-take}
+use borrow.Author.Tests.{lt-ltb, eqb-false}
+use Rattle.choice.specs.Pick.{both}
+use Rattle.choice.proofs.Picks.{Kept, both-true}
+use Rattle.rules.specs.Bounds.{noneLeft}
 use Rattle.rules.specs.declared.Film.{Film}
 use Rattle.rules.specs.declared.ImageBox.{ImageBox}
 use Rattle.rules.specs.declared.Session.{Session}
 use Rattle.rules.specs.declared.Shelf.{Shelf}
 use Rattle.rules.specs.declared.Numbers.{Numbers}
 use Rattle.rules.specs.declared.Core.{Core}
-use Rattle.rules.specs.Lists.{any, every}
-use Rattle.rules.specs.Values.{noBytes, isUS, usIn, polarities, codeIn}
-use Rattle.rules.specs.Records.{rootOf, boxCount, boxesOf, filmsOf, isLive, noBox, noFilm, shelved, pictureUsed}
-use Rattle.rules.specs.Commands.{bytesOf, placed}
-use Rattle.rules.specs.Attributes.{Listing, look, Standing, missing, empty, wrong, fineIf, mandatory, optional, is, attributeRules, codeAllowed, code, number, us, Image, keeps, erases, tooMany, fills, imageIn, isFill, sequenceStandings, boxStandings, pictureAfter, boxWith}
+use Rattle.rules.specs.Lists.{every}
+use Rattle.rules.specs.Values.{noBytes, blank, isUS, usIn, polarities, codeIn}
+use Rattle.rules.specs.Records.{rootOf, boxCount, boxesOf, filmsOf, noBox, noFilm, shelved, pictureUsed}
+use Rattle.rules.specs.Attributes.{Listing, look, valueOf, orKept, attributeRules, codeAllowed, us, Image, keeps, erases, tooMany, fills, imageIn, isFill, boxStandings, pictureAfter, boxWith}
 use Rattle.rules.specs.Effects.{noPictureLeft, filmAt, withBoxes, boxSetIn, numbersAfter, boxSet}
 use Rattle.rules.specs.Checks.{boxRules}
-use Rattle.rules.specs.Sound.{between, sentText, numbersSound, sessionSound, sessionBlank, boxSound, filmSound, shelfSound, serialsOf, uidsApart, coreSound}
-use Rattle.promises.proofs.Every.{every-set, every-at, films-shelved}
-use Rattle.promises.proofs.Facts.{between-true, between-holds, core-facts, core-sound, numbers-facts, numbers-sound, shelf-facts, shelved-sound}
-use Rattle.promises.proofs.Sessions.{or-kept, code-given}
-use Rattle.promises.proofs.Laws.{Later, pick-so, box-facts, box-sound, film-facts, film-sound, session-later, film-later, films-later, queue-later}
+use Rattle.rules.specs.Sound.{between, flag, numbersSound, boxSound, filmSound, shelfSound, uidsApart, coreSound}
+use Rattle.promises.proofs.ListLaws.{every-set, every-at, films-shelved}
+use Rattle.promises.proofs.Facts.{between-true, between-holds, core-facts, core-sound, numbers-facts, numbers-sound, counted, shelf-facts, shelved-sound, films-few, box-facts, box-sound, film-facts, film-sound}
+use Rattle.promises.proofs.Later.{Later, session-later, film-later, films-later, queue-later}
+use Rattle.promises.proofs.Standings.{AllFine, kept-fine, mandatory-fine, or-kept, code-given}
+use Rattle.promises.proofs.Films.{uids-set}
 
--- What a mandatory number says.
+-- What the attributes of a box say.
 
-value-there : (isEmpty unsigned allowed : Bool) → is empty (pick isEmpty empty (fineIf (both unsigned allowed))) ≡ false → is wrong (pick isEmpty empty (fineIf (both unsigned allowed))) ≡ false → allowed ≡ true
-value-there true unsigned allowed e f = absurd (clash e refl)
-value-there false true true e f = refl
-value-there false true false e f = absurd (clash f refl)
-value-there false false allowed e f = absurd (clash f refl)
-
-pub number-there : (allowed : ℕ → Bool) (l : Listing) (found : Found) → is missing (mandatory noBytes (λ v. both (isUS v) (allowed (usIn v))) l found) ≡ false → is empty (mandatory noBytes (λ v. both (isUS v) (allowed (usIn v))) l found) ≡ false → is wrong (mandatory noBytes (λ v. both (isUS v) (allowed (usIn v))) l found) ≡ false → allowed (usIn (bytesOf (l .bytes) (placed found))) ≡ true
-number-there allowed l Missing e f g = absurd (clash e refl)
-number-there allowed l (Value p) e f g =
-    value-there (noBytes (bytesOf (l .bytes) p)) (isUS (bytesOf (l .bytes) p)) (allowed (usIn (bytesOf (l .bytes) p))) f g
-number-there allowed l (Sequence inside) e f g = absurd (clash g refl)
-
--- The first two standings of a box.
-
-none-of-two : (test : Standing → Bool) (a b : Standing) (rest : List Standing) → any test (a ∷ b ∷ rest) ≡ false → (test a ≡ false) × (test b ≡ false)
-unfolding any
-none-of-two test a b rest e =
-    let t = either-false (test a) (any test (b ∷ rest)) e in
-    (t .0, either-false (test b) (any test rest) (t .1) .0)
-
-abbrev positionStanding : ℕ → Listing → Standing
-positionStanding boxes l = number (λ n. both (leb 1 n) (leb n boxes)) l 0x2020_0010
-
-abbrev polarityStanding : Listing → Standing
-polarityStanding l = optional (code polarities l 0x2020_0020)
-
-box-standing : (test : Standing → Bool) (boxes : ℕ) (l : Listing) → any test (boxStandings boxes l) ≡ false → (test (positionStanding boxes l) ≡ false) × (test (polarityStanding l) ≡ false)
+position-given : (boxes : ℕ) (l : Listing) → AllFine (boxStandings boxes l) → between 1 boxes (us l 0x2020_0010) ≡ true
 unfolding boxStandings
-box-standing test boxes l e = none-of-two test (positionStanding boxes l) (polarityStanding l) (sequenceStandings (imageIn l)) e
+position-given boxes l t =
+    both-true (isUS (valueOf l 0x2020_0010)) (between 1 boxes (us l 0x2020_0010))
+    (mandatory-fine noBytes (λ v. both (isUS v) (between 1 boxes (usIn v))) l (look l 0x2020_0010) (t .0)) .1
 
-position-given : (boxes : ℕ) (l : Listing) → Kept (attributeRules (boxStandings boxes l)) → between 1 boxes (us l 0x2020_0010) ≡ true
-position-given boxes l r =
-    number-there (λ n. both (leb 1 n) (leb n boxes)) l (look l 0x2020_0010)
-    (box-standing (is missing) boxes l (r .0) .0)
-    (box-standing (is empty) boxes l (r .1 .0) .0)
-    (box-standing (is wrong) boxes l (r .1 .1 .0) .0)
+polarity-given : (boxes : ℕ) (l : Listing) (old : ℕ) → AllFine (boxStandings boxes l) → flag old ≡ true → flag (orKept blank l 0x2020_0020 (codeIn polarities) old) ≡ true
+unfolding boxStandings
+polarity-given boxes l old t h = or-kept (λ p. leb p 1 ≡ true) (codeAllowed polarities) l 0x2020_0020 (codeIn polarities) old (t .1 .0) (code-given polarities 1 (omega arith)) h
 
 -- Picture numbers.
 
 picture-below : (image : Image) (n : Numbers) (old : ℕ) → numbersSound n ≡ true → ltb old (n .picture) ≡ true → ltb (pictureAfter (n .picture) image old) (numbersAfter image n .picture) ≡ true
 picture-below keeps n old e f = f
 picture-below erases n old e f =
-    let h = between-true 1 noneLeft (n .picture) (numbers-facts n e .picture) .0 in
+    let h = counted n e .pictures in
     lt-ltb 0 (n .picture) (omega arith)
 picture-below tooMany n old e f = f
 picture-below (fills item) n old e f = lt-ltb (n .picture) (n .picture + 1) (omega arith)
@@ -104,10 +75,10 @@ numbers-after (fills item) n e f = picture-used n e f
 
 later-after : (image : Image) (n : Numbers) → Later n (numbersAfter image n)
 unfolding rootOf
-later-after keeps n = record { root = refl; serial = omega arith; picture = omega arith }
-later-after erases n = record { root = refl; serial = omega arith; picture = omega arith }
-later-after tooMany n = record { root = refl; serial = omega arith; picture = omega arith }
-later-after (fills item) n = record { root = refl; serial = omega arith; picture = omega arith }
+later-after keeps n = record { root = refl; serials = omega arith; pictures = omega arith }
+later-after erases n = record { root = refl; serials = omega arith; pictures = omega arith }
+later-after tooMany n = record { root = refl; serials = omega arith; pictures = omega arith }
+later-after (fills item) n = record { root = refl; serials = omega arith; pictures = omega arith }
 
 -- The box.
 
@@ -116,8 +87,8 @@ unfolding boxWith
 box-with boxes n l b e r f =
     let t = box-facts boxes n b f in
     box-sound boxes (numbersAfter (imageIn l) n) (boxWith (n .picture) l b)
-    (position-given boxes l r)
-    (or-kept (λ p. leb p 1 ≡ true) (codeAllowed polarities) l 0x2020_0020 (codeIn polarities) (b .polarity) (box-standing (is wrong) boxes l (r .1 .1 .0) .1) (code-given polarities 1 (omega arith)) (t .1))
+    (position-given boxes l (kept-fine (boxStandings boxes l) r))
+    (polarity-given boxes l (b .polarity) (kept-fine (boxStandings boxes l) r) (t .1))
     (picture-below (imageIn l) n (b .picture .0) e (t .2))
 
 -- A list of boxes, of which the first `count` are the film's.
@@ -148,29 +119,13 @@ film-with n j l f e r h s =
       behind = rw (drop-set-lt count (f .boxes) j (boxWith (n .picture) l (getD (f .boxes) j noBox)) h) (t .behind);
     }
 
--- The films: their names and serials stay.
+-- The films.
 
-serials-kept : (films : List Film) (i : ℕ) (boxes : List ImageBox) → serialsOf (set films i (withBoxes boxes (getD films i noFilm))) ≡ serialsOf films
-unfolding serialsOf
-serials-kept [] i boxes = refl
-serials-kept (f ∷ films) zero boxes = refl
-serials-kept (f ∷ films) (suc i) boxes = rw (serials-kept films i boxes)
-
-uids-kept : (s : Session) (films : List Film) (i : ℕ) (boxes : List ImageBox) → uidsApart s films ≡ true → uidsApart s (set films i (withBoxes boxes (getD films i noFilm))) ≡ true
-unfolding uidsApart
-uids-kept s films i boxes e =
-    rw (serials-kept films i boxes, map-set-same (λ (f : Film). sentText (f .name)) films i (withBoxes boxes (getD films i noFilm)) noFilm refl) e
-
-films-fit : (count most : ℕ) (films : List Film) (i : ℕ) (f : Film) → leb count most ≡ true → length (set (take count films) i f) ≤ most
-films-fit count most films i f e = let h = leb-true count most e in simp (length-set, length-take) (omega arith)
-
-pub shelf-set : (n m : Numbers) (s : Session) (shelf : Shelf) (i : ℕ) (f : Film) → Later n m → filmSound m f ≡ true → shelfSound n s shelf ≡ true → shelfSound m s (shelved (set (filmsOf shelf) i f)) ≡ true
-unfolding filmsOf
+shelf-set : (n m : Numbers) (s : Session) (shelf : Shelf) (i : ℕ) (f : Film) → Later n m → filmSound m f ≡ true → shelfSound n s shelf ≡ true → shelfSound m s (shelved (set (filmsOf shelf) i f)) ≡ true
 shelf-set n m s shelf i f later e g =
-    let t = shelf-facts n s shelf g in
     shelved-sound m s (set (filmsOf shelf) i f)
-    (films-fit (shelf .count) (pick (isLive s) mostFilms 0) (shelf .films) i f (t .count))
-    (every-set (filmSound m) (filmsOf shelf) i f (films-later n m later (filmsOf shelf) (t .films)) (λ h. e))
+    (rw (length-set (filmsOf shelf) i f) (films-few n s shelf g))
+    (every-set (filmSound m) (filmsOf shelf) i f (films-later n m later (filmsOf shelf) (shelf-facts n s shelf g .films)) (λ h. e))
 
 pub box-set-sound : (k : Core) (i j : ℕ) (l : Listing) → coreSound k ≡ true → Kept (boxRules k i l) → i < length (filmsOf (k .shelf)) → j < boxCount (filmAt k i .layout) → coreSound (boxSet k i j l) ≡ true
 unfolding boxSet
@@ -185,12 +140,12 @@ box-set-sound k i j l e r h g =
     core-sound (boxSet k i j l) record {
       numbers = numbers-after (imageIn l) n (c .numbers) (r .1 .1 .1 .0);
       live = c .live;
-      session = pick-so (isLive (k .session)) (sessionSound n (k .session)) (sessionBlank (k .session)) (sessionSound m (k .session)) (sessionBlank (k .session)) (session-later n m later (k .session)) (λ x. x) (c .session);
+      session = session-later n m later (k .session) (c .session);
       shelf =
           shelf-set n m (k .session) (k .shelf) i (withBoxes boxes f) later
           (film-with n j l f (c .numbers) (r .0, (r .1 .0, (r .1 .1 .0, tt))) g (every-at (filmSound n) (filmsOf (k .shelf)) i noFilm (t .films) h))
           (c .shelf);
       queue = queue-later n m later (k .queue) (c .queue);
-      uids = ap (uidsApart (k .session)) (films-shelved (set (filmsOf (k .shelf)) i (withBoxes boxes f))) ∙ uids-kept (k .session) (filmsOf (k .shelf)) i boxes (c .uids);
+      uids = ap (uidsApart (k .session)) (films-shelved (set (filmsOf (k .shelf)) i (withBoxes boxes f))) ∙ uids-set (k .session) (filmsOf (k .shelf)) i (withBoxes boxes f) refl refl refl (c .uids);
       opened = c .opened;
     }

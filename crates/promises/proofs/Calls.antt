@@ -7,8 +7,8 @@ use mathlib.Core.List.{List, [], _∷_}
 use native.Mathlib.Omega.{arith}
 use native.Mathlib.Nat.{mod-lt}
 use lib.Dec.{eqb, leb, ltb}
-use lib.ListN.{length, take, drop, length-take, length-drop}
-use borrow.Author.Tests.{leb-true, leb-false, le-leb, ltb-false, eqb-true, eqb-false, eq-eqb}
+use lib.ListN.{length, drop, length-drop}
+use borrow.Author.Tests.{leb-false, le-leb, ltb-false, eqb-true, eqb-false, eq-eqb}
 use Rattle.choice.specs.Pick.{both, either, not}
 use Rattle.choice.proofs.Picks.{Kept, either-false, not-false, clash}
 use Rattle.uids.specs.Uids.{isUid, components, component}
@@ -21,22 +21,14 @@ use Rattle.rules.specs.Records.{rootOf, filmsOf, entriesOf, shelved, noSession,
 use Rattle.rules.specs.Effects.{sessionDeleted}
 use Rattle.rules.specs.Sound.{between, numbersSound, serialsOf, uidsApart, sessionBlank, entrySound, filmSound, openedSound, coreSound}
 use Rattle.rules.specs.Calls.{Handed, badRoot, badNumber, badContext, badSyntax, messageWrong, startRules, openRules, started, opened, closed, taken}
-use Rattle.promises.proofs.Every.{all-holds, take-filled, behind-filled, every-drop, films-shelved}
-use Rattle.promises.proofs.Facts.{between-holds, core-facts, core-sound, numbers-sound, queue-facts, shelved-sound, queued-sound}
+use Rattle.promises.proofs.ListLaws.{all-holds, take-filled, behind-filled, every-nil, every-drop, films-shelved}
+use Rattle.promises.proofs.Facts.{between-holds, core-facts, core-sound, numbers-sound, queue-facts, entries-few, shelved-sound, queued-sound}
 
 -- Nothing live.
 
 blank-session : sessionBlank noSession ≡ true
 unfolding every
 blank-session = refl
-
-no-films : (n : Numbers) → every (filmSound n) [] ≡ true
-unfolding every
-no-films n = refl
-
-no-entries : (n : Numbers) → every (entrySound n) [] ≡ true
-unfolding every
-no-entries n = refl
 
 nobody-apart : uidsApart noSession [] ≡ true
 unfolding uidsApart apart serialsOf every
@@ -59,7 +51,7 @@ closed-sound k e =
       numbers = f .numbers;
       live = refl;
       session = blank-session;
-      shelf = shelved-sound (k .numbers) noSession [] (omega arith) (no-films (k .numbers));
+      shelf = shelved-sound (k .numbers) noSession [] (omega arith) (every-nil (filmSound (k .numbers)));
       queue = f .queue;
       uids = shelf-apart;
       opened = not-open;
@@ -73,7 +65,7 @@ session-deleted-sound k e =
       numbers = f .numbers;
       live = refl;
       session = blank-session;
-      shelf = shelved-sound (k .numbers) noSession [] (omega arith) (no-films (k .numbers));
+      shelf = shelved-sound (k .numbers) noSession [] (omega arith) (every-nil (filmSound (k .numbers)));
       queue = f .queue;
       uids = shelf-apart;
       opened = f .opened;
@@ -81,15 +73,14 @@ session-deleted-sound k e =
 
 -- Take.
 
-fewer-entries : (count : ℕ) (entries : List Entry) → count ≤ mostEntries → length (drop 1 (take count entries)) ≤ mostEntries
-fewer-entries count entries h = simp (length-drop, length-take) (omega arith)
+fewer-entries : (es : List Entry) → length es ≤ mostEntries → length (drop 1 es) ≤ mostEntries
+fewer-entries es h = simp length-drop (omega arith)
 
 -- where the queue is empty, it stays so
 pub taken-sound : (k : Core) (h : Handed) → coreSound k ≡ true → coreSound (taken k h .0) ≡ true
-unfolding taken entriesOf
+unfolding taken
 taken-sound k h e =
     let f = core-facts k e in
-    let q = queue-facts (k .numbers) (k .queue) (f .queue) in
     core-sound (taken k h .0) record {
       numbers = f .numbers;
       live = f .live;
@@ -97,8 +88,8 @@ taken-sound k h e =
       shelf = f .shelf;
       queue =
           queued-sound (k .numbers) (drop 1 (entriesOf (k .queue)))
-          (fewer-entries (k .queue .count) (k .queue .entries) (leb-true (k .queue .count) mostEntries (q .count)))
-          (every-drop (entrySound (k .numbers)) 1 (entriesOf (k .queue)) (q .entries));
+          (fewer-entries (entriesOf (k .queue)) (entries-few (k .numbers) (k .queue) (f .queue)))
+          (every-drop (entrySound (k .numbers)) 1 (entriesOf (k .queue)) (queue-facts (k .numbers) (k .queue) (f .queue) .entries));
       uids = f .uids;
       opened = f .opened;
     }
@@ -143,8 +134,8 @@ started-sound h r =
       numbers = start-numbers (h .root) (h .serial) (h .picture) (r .0) (t .0) (t .1);
       live = refl;
       session = blank-session;
-      shelf = shelved-sound n noSession [] (omega arith) (no-films n);
-      queue = queued-sound n [] (omega arith) (no-entries n);
+      shelf = shelved-sound n noSession [] (omega arith) (every-nil (filmSound n));
+      queue = queued-sound n [] (omega arith) (every-nil (entrySound n));
       uids = shelf-apart;
       opened = not-open;
     }

@@ -1,17 +1,20 @@
 -- What the rules of the records say, fact by fact.
 -- Assumes nothing.
-use Prim.Native.Nat.{ℕ, _≤_}
+use Prim.Native.Nat.{ℕ, _+_, _≤_}
 use mathlib.Core.Path.{_≡_, ap, _∙_}
-use mathlib.Core.Bool.{Bool, true}
-use mathlib.Core.List.{List, [], _∷_}
-use lib.Dec.{leb}
-use lib.ListN.{length, drop}
+use mathlib.Core.Bool.{true}
+use mathlib.Core.List.{List}
+use native.Mathlib.Omega.{arith}
+use lib.Dec.{leb, ltb}
+use lib.ListN.{length, take, drop, length-take}
 use borrow.Author.Tests.{leb-true, le-leb}
 use Rattle.choice.specs.Pick.{pick}
 use Rattle.choice.proofs.Picks.{both-true, both-holds}
+use Rattle.octets.specs.Octets.{same}
 use Rattle.uids.specs.Uids.{isUid}
 use Rattle.rules.specs.Bounds.{mostFilms, mostEntries, rootLimit, noneLeft}
 use Rattle.rules.specs.declared.Session.{Session}
+use Rattle.rules.specs.declared.ImageBox.{ImageBox}
 use Rattle.rules.specs.declared.Film.{Film}
 use Rattle.rules.specs.declared.Shelf.{Shelf}
 use Rattle.rules.specs.declared.Entry.{Entry}
@@ -19,9 +22,10 @@ use Rattle.rules.specs.declared.Queue.{Queue}
 use Rattle.rules.specs.declared.Numbers.{Numbers}
 use Rattle.rules.specs.declared.Core.{Core}
 use Rattle.rules.specs.Lists.{every}
-use Rattle.rules.specs.Records.{rootOf, filmsOf, entriesOf, isLive, shelved, queued}
-use Rattle.rules.specs.Sound.{between, zeros, flag, numbersSound, sessionSound, sessionBlank, filmSound, filmBlank, shelfSound, entrySound, entryBlank, queueSound, uidsApart, openedSound, coreSound}
-use Rattle.promises.proofs.Every.{all-true, all-holds, films-behind, entries-behind, films-shelved, entries-queued}
+use Rattle.rules.specs.Values.{trimmed, labelAllowed}
+use Rattle.rules.specs.Records.{rootOf, boxCount, boxesOf, filmsOf, entriesOf, isLive, shelved, queued}
+use Rattle.rules.specs.Sound.{between, zeros, flag, nameSound, numbersSound, sessionSound, sessionBlank, layoutSound, boxSound, boxBlank, filmSound, filmBlank, shelfSound, entrySound, entryBlank, queueSound, uidsApart, openedSound, coreSound}
+use Rattle.promises.proofs.ListLaws.{all-true, all-holds, films-behind, entries-behind, films-shelved, entries-queued}
 
 pub between-true : (low high n : ℕ) → between low high n ≡ true → (low ≤ n) × (n ≤ high)
 between-true low high n e =
@@ -32,17 +36,6 @@ pub between-holds : (low high n : ℕ) → low ≤ n → n ≤ high → between 
 between-holds low high n h k = both-holds (leb low n) (leb n high) (le-leb low n h) (le-leb n high k)
 
 -- The core.
-
-abbrev coreTests : Core → List Bool
-coreTests k =
-    numbersSound (k .numbers)
-    ∷ flag (k .session .live)
-    ∷ pick (isLive (k .session)) (sessionSound (k .numbers) (k .session)) (sessionBlank (k .session))
-    ∷ shelfSound (k .numbers) (k .session) (k .shelf)
-    ∷ queueSound (k .numbers) (k .queue)
-    ∷ uidsApart (k .session) (filmsOf (k .shelf))
-    ∷ openedSound (k .opened)
-    ∷ []
 
 pub record CoreFacts (k : Core) : Type 0 where
   pub numbers : numbersSound (k .numbers) ≡ true
@@ -56,7 +49,7 @@ pub record CoreFacts (k : Core) : Type 0 where
 pub core-facts : (k : Core) → coreSound k ≡ true → CoreFacts k
 unfolding coreSound
 core-facts k e =
-    let t = all-true (coreTests k) e in
+    let t = all-true _ e in
     record {
       numbers = t .0;
       live = t .1 .0;
@@ -69,18 +62,9 @@ core-facts k e =
 
 pub core-sound : (k : Core) → CoreFacts k → coreSound k ≡ true
 unfolding coreSound
-core-sound k f = all-holds (coreTests k) (f .numbers, (f .live, (f .session, (f .shelf, (f .queue, (f .uids, (f .opened, tt)))))))
+core-sound k f = all-holds _ (f .numbers, (f .live, (f .session, (f .shelf, (f .queue, (f .uids, (f .opened, tt)))))))
 
 -- The numbers.
-
-abbrev numbersTests : Numbers → List Bool
-numbersTests n =
-    between 1 rootLimit (n .used)
-    ∷ isUid (rootOf n)
-    ∷ zeros (drop (n .used) (n .root))
-    ∷ between 1 noneLeft (n .serial)
-    ∷ between 1 noneLeft (n .picture)
-    ∷ []
 
 pub record NumbersFacts (n : Numbers) : Type 0 where
   pub used : between 1 rootLimit (n .used) ≡ true
@@ -92,21 +76,14 @@ pub record NumbersFacts (n : Numbers) : Type 0 where
 pub numbers-facts : (n : Numbers) → numbersSound n ≡ true → NumbersFacts n
 unfolding numbersSound
 numbers-facts n e =
-    let t = all-true (numbersTests n) e in
+    let t = all-true _ e in
     record { used = t .0; root = t .1 .0; behind = t .1 .1 .0; serial = t .1 .1 .1 .0; picture = t .1 .1 .1 .1 .0 }
 
 pub numbers-sound : (n : Numbers) → NumbersFacts n → numbersSound n ≡ true
 unfolding numbersSound
-numbers-sound n f = all-holds (numbersTests n) (f .used, (f .root, (f .behind, (f .serial, (f .picture, tt)))))
+numbers-sound n f = all-holds _ (f .used, (f .root, (f .behind, (f .serial, (f .picture, tt)))))
 
 -- The films.
-
-abbrev shelfTests : Numbers → Session → Shelf → List Bool
-shelfTests n s shelf =
-    leb (shelf .count) (pick (isLive s) mostFilms 0)
-    ∷ every (filmSound n) (filmsOf shelf)
-    ∷ every filmBlank (drop (shelf .count) (shelf .films))
-    ∷ []
 
 pub record ShelfFacts (n : Numbers) (s : Session) (shelf : Shelf) : Type 0 where
   pub count : leb (shelf .count) (pick (isLive s) mostFilms 0) ≡ true
@@ -116,12 +93,12 @@ pub record ShelfFacts (n : Numbers) (s : Session) (shelf : Shelf) : Type 0 where
 pub shelf-facts : (n : Numbers) (s : Session) (shelf : Shelf) → shelfSound n s shelf ≡ true → ShelfFacts n s shelf
 unfolding shelfSound
 shelf-facts n s shelf e =
-    let t = all-true (shelfTests n s shelf) e in
+    let t = all-true _ e in
     record { count = t .0; films = t .1 .0; behind = t .1 .1 .0 }
 
 pub shelf-sound : (n : Numbers) (s : Session) (shelf : Shelf) → ShelfFacts n s shelf → shelfSound n s shelf ≡ true
 unfolding shelfSound
-shelf-sound n s shelf f = all-holds (shelfTests n s shelf) (f .count, (f .films, (f .behind, tt)))
+shelf-sound n s shelf f = all-holds _ (f .count, (f .films, (f .behind, tt)))
 
 -- films on a shelf anew
 pub shelved-sound : (n : Numbers) (s : Session) (films : List Film) → length films ≤ pick (isLive s) mostFilms 0 → every (filmSound n) films ≡ true → shelfSound n s (shelved films) ≡ true
@@ -135,13 +112,6 @@ shelved-sound n s films h e =
 
 -- The queue.
 
-abbrev queueTests : Numbers → Queue → List Bool
-queueTests n q =
-    leb (q .count) mostEntries
-    ∷ every (entrySound n) (entriesOf q)
-    ∷ every entryBlank (drop (q .count) (q .entries))
-    ∷ []
-
 pub record QueueFacts (n : Numbers) (q : Queue) : Type 0 where
   pub count : leb (q .count) mostEntries ≡ true
   pub entries : every (entrySound n) (entriesOf q) ≡ true
@@ -150,12 +120,12 @@ pub record QueueFacts (n : Numbers) (q : Queue) : Type 0 where
 pub queue-facts : (n : Numbers) (q : Queue) → queueSound n q ≡ true → QueueFacts n q
 unfolding queueSound
 queue-facts n q e =
-    let t = all-true (queueTests n q) e in
+    let t = all-true _ e in
     record { count = t .0; entries = t .1 .0; behind = t .1 .1 .0 }
 
 pub queue-sound : (n : Numbers) (q : Queue) → QueueFacts n q → queueSound n q ≡ true
 unfolding queueSound
-queue-sound n q f = all-holds (queueTests n q) (f .count, (f .entries, (f .behind, tt)))
+queue-sound n q f = all-holds _ (f .count, (f .entries, (f .behind, tt)))
 
 -- entries queued anew
 pub queued-sound : (n : Numbers) (entries : List Entry) → length entries ≤ mostEntries → every (entrySound n) entries ≡ true → queueSound n (queued entries) ≡ true
@@ -166,3 +136,108 @@ queued-sound n entries h e =
       entries = ap (every (entrySound n)) (entries-queued entries) ∙ e;
       behind = entries-behind entries;
     }
+
+-- how many films there may be
+abbrev pub filmRoom : Session → ℕ
+filmRoom s = pick (isLive s) mostFilms 0
+
+pub films-few : (n : Numbers) (s : Session) (shelf : Shelf) → shelfSound n s shelf ≡ true → length (filmsOf shelf) ≤ filmRoom s
+unfolding filmsOf
+films-few n s shelf e = let c = leb-true (shelf .count) (filmRoom s) (shelf-facts n s shelf e .count) in simp length-take (omega arith)
+
+pub entries-few : (n : Numbers) (q : Queue) → queueSound n q ≡ true → length (entriesOf q) ≤ mostEntries
+unfolding entriesOf
+entries-few n q e = let c = leb-true (q .count) mostEntries (queue-facts n q e .count) in simp length-take (omega arith)
+
+-- Next numbers are at least 1.
+
+pub record Counted (n : Numbers) : Type 0 where
+  pub serials : 1 ≤ n .serial
+  pub pictures : 1 ≤ n .picture
+
+pub counted : (n : Numbers) → numbersSound n ≡ true → Counted n
+counted n e =
+    let f = numbers-facts n e in
+    record { serials = between-true 1 noneLeft (n .serial) (f .serial) .0; pictures = between-true 1 noneLeft (n .picture) (f .picture) .0 }
+
+-- A session.
+
+pub record LabelFacts (used : ℕ) (label : List ℕ) : Type 0 where
+  pub short : leb used 64 ≡ true
+  pub allowed : labelAllowed (take used label) ≡ true
+  pub bare : same (trimmed (take used label)) (take used label) ≡ true
+  pub behind : zeros (drop used label) ≡ true
+
+-- all but the name
+pub record ValueFacts (s : Session) : Type 0 where
+  pub copies : between 1 99 (s .copies) ≡ true
+  pub priority : leb (s .priority) 2 ≡ true
+  pub medium : leb (s .medium) 2 ≡ true
+  pub destination : leb (s .destination) 1 ≡ true
+  pub label : LabelFacts (s .used) (s .label)
+
+pub session-facts : (n : Numbers) (s : Session) → sessionSound n s ≡ true → (nameSound n (s .name) ≡ true) × ValueFacts s
+session-facts n s e =
+    let t = all-true _ e in (
+      t .0,
+      record {
+        copies = t .1 .0;
+        priority = t .1 .1 .0;
+        medium = t .1 .1 .1 .0;
+        destination = t .1 .1 .1 .1 .0;
+        label = record {
+          short = t .1 .1 .1 .1 .1 .0;
+          allowed = t .1 .1 .1 .1 .1 .1 .0;
+          bare = t .1 .1 .1 .1 .1 .1 .1 .0;
+          behind = t .1 .1 .1 .1 .1 .1 .1 .1 .0;
+        };
+      },
+    )
+
+pub session-sound : (n : Numbers) (s : Session) → nameSound n (s .name) ≡ true → ValueFacts s → sessionSound n s ≡ true
+session-sound n s e f =
+    all-holds _
+    (e, (f .copies, (f .priority, (f .medium, (f .destination, (f .label .short, (f .label .allowed, (f .label .bare, (f .label .behind, tt)))))))))
+
+-- the session of the records, where it is live
+pub live-facts : (n : Numbers) (s : Session) → pick (isLive s) (sessionSound n s) (sessionBlank s) ≡ true → isLive s ≡ true → (nameSound n (s .name) ≡ true) × ValueFacts s
+live-facts n s e l = session-facts n s (rw l at e)
+
+-- A film and its boxes.
+
+pub record FilmFacts (n : Numbers) (f : Film) : Type 0 where
+  pub name : nameSound n (f .name) ≡ true
+  pub layout : layoutSound (f .layout) ≡ true
+  pub orientation : flag (f .orientation) ≡ true
+  pub magnification : leb (f .magnification) 3 ≡ true
+  pub first : leb 1 (f .first .0) ≡ true
+  pub last : leb (f .first .0 + boxCount (f .layout)) (n .serial) ≡ true
+  pub boxes : every (boxSound (boxCount (f .layout)) n) (boxesOf f) ≡ true
+  pub behind : every boxBlank (drop (boxCount (f .layout)) (f .boxes)) ≡ true
+
+pub film-facts : (n : Numbers) (f : Film) → filmSound n f ≡ true → FilmFacts n f
+unfolding filmSound
+film-facts n f e =
+    let t = all-true _ e in
+    record {
+      name = t .0;
+      layout = t .1 .0;
+      orientation = t .1 .1 .0;
+      magnification = t .1 .1 .1 .0;
+      first = t .1 .1 .1 .1 .0;
+      last = t .1 .1 .1 .1 .1 .0;
+      boxes = t .1 .1 .1 .1 .1 .1 .0;
+      behind = t .1 .1 .1 .1 .1 .1 .1 .0;
+    }
+
+pub film-sound : (n : Numbers) (f : Film) → FilmFacts n f → filmSound n f ≡ true
+unfolding filmSound
+film-sound n f t =
+    all-holds _
+    (t .name, (t .layout, (t .orientation, (t .magnification, (t .first, (t .last, (t .boxes, (t .behind, tt))))))))
+
+pub box-facts : (boxes : ℕ) (n : Numbers) (b : ImageBox) → boxSound boxes n b ≡ true → (between 1 boxes (b .position) ≡ true) × (flag (b .polarity) ≡ true) × (ltb (b .picture .0) (n .picture) ≡ true)
+box-facts boxes n b e = let t = all-true _ e in (t .0, t .1 .0, t .1 .1 .0)
+
+pub box-sound : (boxes : ℕ) (n : Numbers) (b : ImageBox) → between 1 boxes (b .position) ≡ true → flag (b .polarity) ≡ true → ltb (b .picture .0) (n .picture) ≡ true → boxSound boxes n b ≡ true
+box-sound boxes n b e f g = all-holds _ (e, (f, (g, tt)))

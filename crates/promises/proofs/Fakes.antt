@@ -2,16 +2,15 @@
 -- Strike-out alone admits them all (strike/proofs/Fakes); demand 3 is stated over the book's own step.
 -- Assumes nothing.
 use mathlib.Core.Path.{_≡_, refl}
-use mathlib.Core.Bool.{Bool, true, false}
+use mathlib.Core.Bool.{true, false}
 use mathlib.Core.List.{List, [], _∷_, map}
 use Prim.Native.Nat.{ℕ}
-use Rattle.strike.specs.Service.{Call, feed, Service}
+use Rattle.strike.specs.Service.{Call, feed}
 use Rattle.strike.specs.Machine.{headerWrong, fragmentIn, skips, reads, gathers, overflows, stores, collect, laidBy, answered, carriedOut, fed, checked, step, laidIf, messageAfter}
 use Rattle.strike.specs.Machine as machine
-use Rattle.strike.specs.Machine.{idle, Records, Answer}
+use Rattle.strike.specs.Machine.{idle, Answer}
 use Rattle.strike.specs.Messages.{answers}
-use Rattle.strike.proofs.Fakes.{dropsAll, failsAll, oneReply, storesNone, storesFirst}
-use Rattle.rules.specs.declared.Core.{Core}
+use Rattle.strike.proofs.Fakes.{dropsAll, storesNone, storesFirst}
 use Rattle.rules.specs.Responses.{Reply}
 use Rattle.rules.specs.Calls.{Handed, printing, check, started, opened, closed, pictureBytes, entryBytes, taken, reading}
 use Rattle.rules.proofs.Stage.{nothingLive}

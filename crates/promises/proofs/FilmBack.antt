@@ -1,13 +1,14 @@
--- The data set of a created film, read back by the book's own readers: an item for each image box, in order, in both syntaxes.
--- Assumes nothing.
+-- The data set of a created film is read back: one item a box, and the i-th names the i-th of the UIDs that were made for its boxes; it fits its buffer.
+-- Assumes nothing but that the root has at most 40 characters, where UIDs are made of it.
 use Prim.Native.Nat.{ℕ, zero, suc, _+_, _<_, _≤_}
 use mathlib.Core.Path.{_≡_, refl, sym, ap, _∙_, subst}
 use mathlib.Core.Bool.{Bool, true}
-use mathlib.Core.List.{List, [], _∷_}
+use mathlib.Core.List.{List, [], _∷_, map}
 use native.Mathlib.Omega.{arith}
 use lib.ListN.{length, getD}
 use Rattle.octets.proofs.Laid.{Stands}
-use Rattle.uids.specs.Uids.{digits, component, components, isUid, unpadded}
+use Rattle.uids.specs.Uids.{digits, component, components, isUid, unpadded, made}
+use Rattle.uids.proofs.Made.{made-short, made-uid}
 use Rattle.headers.specs.declared.Inside.{Inside}
 use Rattle.headers.specs.declared.Head.the-variants.{Nest}
 use Rattle.headers.specs.Table.{SQ, UI}
@@ -25,13 +26,21 @@ use Rattle.writing.proofs.HeaderBack.{item-head-back}
 use Rattle.writing.proofs.ListBack.{between, written-even, not-yet, ended, list-back, item-header-stands, list-stands, other-items-stand, stop-after-item, item-past-back, data-set-back}
 use Rattle.writing.proofs.FindBack.{ItemsStand}
 use Rattle.writing.proofs.RoundTrip.{ReadBack, round-trip}
-use Rattle.rules.specs.Bounds.{mostBoxes}
+use Rattle.rules.specs.declared.Film.{Film}
+use Rattle.rules.specs.declared.Numbers.{Numbers}
+use Rattle.rules.specs.declared.Core.{Core}
+use Rattle.rules.specs.Bounds.{mostBoxes, dataRoom, rootLimit, noneLeft}
 use Rattle.rules.specs.Text.{chars, boxClass}
+use Rattle.rules.specs.Lists.{from}
+use Rattle.rules.specs.Records.{rootOf, boxCount, boxUids}
 use Rattle.rules.specs.Commands.{bytesOf}
-use Rattle.rules.specs.Attributes.{Listing, listingOf, look, valueOf, itemsIn, onlyItem}
+use Rattle.rules.specs.Attributes.{Listing, listingOf, look, valueOf, itemsIn, onlyItem, filmWith}
+use Rattle.rules.specs.Effects.{newFilm}
 use Rattle.rules.specs.Responses.{boxItems, filmTree}
+use Rattle.promises.proofs.Layouts.{layout-few}
+use Rattle.promises.proofs.Instances.{box-uids-length}
 use Rattle.promises.proofs.Held.{here, later, Holds, holds, whole-span, whole-back}
-use Rattle.promises.proofs.Fitting.{AllShort, boxTree, film-fit}
+use Rattle.promises.proofs.ReplySizes.{AllShort, boxTree, film-fit, film-fits}
 use Rattle.promises.proofs.ReadBack.{unpadded-ui}
 
 -- an item stands at a place of a sequence that ends at `stop`: its header tells its list, and that is read back
@@ -176,3 +185,72 @@ module _ (explicit : Bool) (uids : List (List ℕ)) (k : AllShort uids) (n : len
         counts = rw e (r .items 0x2010_0510 i p ∙ ap (told explicit start) (film-items uids));
         boxes = boxes-mean b explicit (i .stop) (itemsOf b explicit 3 i start) uids (items-mean (boxItems uids) b explicit 3 start (i .stop) start (m .fit) refl (m .stands));
       }
+
+-- The UIDs that were made for its boxes.
+
+-- UIDs made of a root of at most 40 characters have at most 51
+all-made-short : (root : List ℕ) (serials : List ℕ) → length root ≤ 40 → AllShort (map (made root) serials)
+all-made-short root [] h = tt
+all-made-short root (serial ∷ serials) h = (omega (arith, made-short root serial h), all-made-short root serials h)
+
+made-at : (root : List ℕ) (n count i : ℕ) → i < count → getD (map (made root) (from n count)) i [] ≡ made root (n + i)
+unfolding from
+made-at root n zero i h = absurd (omega arith)
+made-at root n (suc count) zero h = ap (made root) (omega arith)
+made-at root n (suc count) (suc i) h = let e : n + 1 + i ≡ n + suc i = omega arith in made-at root (n + 1) count i (omega arith) ∙ ap (made root) e
+
+module _ (n : Numbers) (f : Film) (h : length (rootOf n) ≤ rootLimit) (few : boxCount (f .layout) ≤ mostBoxes) where
+  pub uids-short : AllShort (boxUids n f)
+  unfolding boxUids
+  uids-short = all-made-short (rootOf n) (from (f .first .0) (boxCount (f .layout))) h
+
+  pub uids-count : length (boxUids n f) ≡ boxCount (f .layout)
+  uids-count = box-uids-length n f
+
+  uids-few : length (boxUids n f) ≤ mostBoxes
+  uids-few = omega (arith, uids-count)
+
+  pub uid-at : (i : ℕ) → i < boxCount (f .layout) → getD (boxUids n f) i [] ≡ made (rootOf n) (f .first .0 + i)
+  unfolding boxUids
+  uid-at i k = made-at (rootOf n) (f .first .0) (boxCount (f .layout)) i k
+
+  module _ (explicit : Bool) where
+    -- it fits its buffer, in both syntaxes
+    pub created-fits : length (written explicit (filmTree (boxUids n f))) ≤ dataRoom
+    created-fits = film-fits explicit (boxUids n f) uids-short uids-few
+
+    -- and is read back
+    pub created-means : FilmMeans (written explicit (filmTree (boxUids n f))) explicit (boxUids n f)
+    created-means = film-means explicit (boxUids n f) uids-short uids-few
+
+    module _ (i : ℕ) (k : i < boxCount (f .layout)) where
+      -- the i-th item is that of the box with the i-th serial
+      pub created-box : BoxMeans (written explicit (filmTree (boxUids n f))) explicit (created-means .inside .stop)
+          (getD (itemsOf (written explicit (filmTree (boxUids n f))) explicit 3 (created-means .inside) (created-means .inside .from)) i 0)
+          (made (rootOf n) (f .first .0 + i))
+      created-box =
+          subst
+          (λ (uid : List ℕ). BoxMeans (written explicit (filmTree (boxUids n f))) explicit (created-means .inside .stop) (getD (itemsOf (written explicit (filmTree (boxUids n f))) explicit 3 (created-means .inside) (created-means .inside .from)) i 0) uid)
+          (uid-at i k)
+          (box-at (written explicit (filmTree (boxUids n f))) explicit (created-means .inside .stop) (itemsOf (written explicit (filmTree (boxUids n f))) explicit 3 (created-means .inside) (created-means .inside .from)) (boxUids n f) i (created-means .boxes) (omega (arith, uids-count)))
+
+      -- its UID, unpadded, is the root, a dot and the serial
+      pub created-uid : isUid (rootOf n) ≡ true → f .first .0 + boxCount (f .layout) ≤ noneLeft
+          → unpadded (valueOf (itemListing (written explicit (filmTree (boxUids n f))) explicit (created-box .list)) 0x0008_1155) ≡ made (rootOf n) (f .first .0 + i)
+      created-uid u l = created-box .instance (made-uid (rootOf n) (f .first .0 + i) u h (omega arith))
+
+-- A new film has at most 36 boxes.
+
+module _ (k : Core) (sent : List ℕ) (l : Listing) where
+  pub new-film-few : boxCount (newFilm k sent l .layout) ≤ mostBoxes
+  unfolding newFilm filmWith
+  new-film-few = layout-few l
+
+  module _ (h : length (rootOf (k .numbers)) ≤ rootLimit) (explicit : Bool) where
+    -- the data set of a new film fits its buffer
+    pub new-film-fits : length (written explicit (filmTree (boxUids (k .numbers) (newFilm k sent l)))) ≤ dataRoom
+    new-film-fits = created-fits (k .numbers) (newFilm k sent l) h new-film-few explicit
+
+    -- and is read back
+    pub new-film-means : FilmMeans (written explicit (filmTree (boxUids (k .numbers) (newFilm k sent l)))) explicit (boxUids (k .numbers) (newFilm k sent l))
+    new-film-means = created-means (k .numbers) (newFilm k sent l) h new-film-few explicit

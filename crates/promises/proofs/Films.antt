@@ -1,97 +1,41 @@
 -- The rules of the records are kept where a film is deleted or set.
 -- Assumes nothing.
-use Prim.Native.Nat.{ℕ, zero, suc, _-_, _<_, _≤_}
-use mathlib.Core.Path.{_≡_, refl}
-use mathlib.Core.Bool.{true, false}
+use Prim.Native.Nat.{ℕ, zero, suc, _≤_}
+use mathlib.Core.Path.{_≡_, refl, ap}
+use mathlib.Core.Bool.{true}
 use mathlib.Core.List.{List, [], _∷_, map}
 use native.Mathlib.Omega.{arith}
-use lib.ListN.{length, getD, set, take, drop, replicate, length-append, length-take, length-drop, length-set}
-use lib.Seq.{drop-append-seam, map-set-same}
-use borrow.Author.Tests.{leb-true, le-leb}
-use Rattle.choice.specs.Pick.{pick}
+use lib.Dec.{leb}
+use lib.ListN.{length, getD, set, take, drop, length-append, length-take, length-drop, length-set}
+use lib.Seq.{map-set-same}
 use Rattle.choice.proofs.Picks.{Kept, both-true, both-holds}
 use Rattle.rules.specs.declared.Session.{Session}
 use Rattle.rules.specs.declared.Film.{Film}
-use Rattle.rules.specs.declared.Shelf.{Shelf}
 use Rattle.rules.specs.declared.Numbers.{Numbers}
 use Rattle.rules.specs.declared.Core.{Core}
-use Rattle.rules.specs.Bounds.{mostFilms}
-use Rattle.rules.specs.Lists.{every, any, apart, without}
-use Rattle.rules.specs.Records.{filmsOf, shelved, noFilm, isLive, boxesOf, withFilms}
-use Rattle.rules.specs.Values.{blank, codeIn, orientations, magnifications}
-use Rattle.rules.specs.Attributes.{Listing, look, is, wrong, code, optional, orKept, attributeRules, optionalFilm, mustBeAbsent, filmSetStandings, filmWith}
+use Rattle.rules.specs.Lists.{every, apart, without}
+use Rattle.rules.specs.Records.{filmsOf, noFilm, boxesOf, withFilms}
+use Rattle.rules.specs.Values.{codeIn, orientations, magnifications}
+use Rattle.rules.specs.Attributes.{Listing, codeAllowed, attributeRules, optionalFilm, filmSetStandings, filmWith}
 use Rattle.rules.specs.Effects.{filmAt, filmDeleted, filmSet}
-use Rattle.rules.specs.Sound.{numbersSound, sessionSound, sessionBlank, filmSound, filmBlank, shelfSound, queueSound, openedSound, flag, overlap, ownSerial, serialsOf, sentText, sameText, uidsApart, coreSound}
-use Rattle.promises.proofs.ListLaws.{films-shelved, all-holds, holds-all, every-replicate, every-at, every-set, every-part, apart-part, Part, done, skip, keep, part-map, part-without}
-use Rattle.promises.proofs.Codes.{code-fine, any-none, any-behind}
-
--- the rules of the records, each by its name
-pub record Kept-rules (k : Core) : Type 0 where
-  pub numbers : numbersSound (k .numbers) ≡ true
-  pub flagged : flag (k .session .live) ≡ true
-  pub session : pick (isLive (k .session)) (sessionSound (k .numbers) (k .session)) (sessionBlank (k .session)) ≡ true
-  pub shelf : shelfSound (k .numbers) (k .session) (k .shelf) ≡ true
-  pub queue : queueSound (k .numbers) (k .queue) ≡ true
-  pub uids : uidsApart (k .session) (filmsOf (k .shelf)) ≡ true
-  pub opening : openedSound (k .opened) ≡ true
-
-pub rules-of : (k : Core) → coreSound k ≡ true → Kept-rules k
-unfolding coreSound
-rules-of k e =
-    let h = all-holds _ e in
-    record { numbers = h .0; flagged = h .1 .0; session = h .1 .1 .0; shelf = h .1 .1 .1 .0; queue = h .1 .1 .1 .1 .0; uids = h .1 .1 .1 .1 .1 .0; opening = h .1 .1 .1 .1 .1 .1 .0 }
-
-pub of-rules : (k : Core) → Kept-rules k → coreSound k ≡ true
-unfolding coreSound
-of-rules k r = holds-all _ (r .numbers, (r .flagged, (r .session, (r .shelf, (r .queue, (r .uids, (r .opening, tt)))))))
-
--- how many films there may be
-abbrev pub filmRoom : Session → ℕ
-filmRoom s = pick (isLive s) mostFilms 0
-
--- the films of a shelf keep their rules, and there are not too many
-pub record Kept-films (n : Numbers) (s : Session) (films : List Film) : Type 0 where
-  pub few : length films ≤ filmRoom s
-  pub each : every (filmSound n) films ≡ true
-
-pub films-of : (n : Numbers) (s : Session) (shelf : Shelf) → shelfSound n s shelf ≡ true → Kept-films n s (filmsOf shelf)
-unfolding shelfSound filmsOf
-films-of n s shelf e =
-    let h = all-holds _ e in
-    record { few = let c = leb-true (shelf .count) (filmRoom s) (h .0) in simp length-take (omega arith); each = h .1 .0 }
-
-blank-film : filmBlank noFilm ≡ true
-unfolding every
-blank-film = refl
-
-pub shelf-of : (n : Numbers) (s : Session) (films : List Film) → Kept-films n s films → shelfSound n s (shelved films) ≡ true
-unfolding shelfSound filmsOf shelved
-shelf-of n s films h =
-    holds-all _ (
-      le-leb (length films) (filmRoom s) (h .few),
-      (
-        rw (films-shelved films) (h .each),
-        (
-          rw (drop-append-seam films (replicate (mostFilms - length films) noFilm)) (every-replicate filmBlank (mostFilms - length films) noFilm blank-film),
-          tt,
-        ),
-      ),
-    )
+use Rattle.rules.specs.Sound.{filmSound, overlap, ownSerial, serialsOf, sentText, sameText, uidsApart, coreSound}
+use Rattle.promises.proofs.ListLaws.{films-shelved, every-at, every-set, every-part, apart-part, Part, done, skip, keep, part-map, part-without}
+use Rattle.promises.proofs.Facts.{core-facts, core-sound, shelf-facts, shelved-sound, filmRoom, films-few, film-facts, film-sound}
+use Rattle.promises.proofs.Standings.{AllFine, kept-fine, or-kept, code-given}
 
 -- the rules are kept by other films
-pub with-films : (k : Core) (films : List Film) → coreSound k ≡ true → Kept-films (k .numbers) (k .session) films → uidsApart (k .session) films ≡ true → coreSound (withFilms films k) ≡ true
-with-films k films e h u =
-    let r = rules-of k e in
-    of-rules (withFilms films k)
-    (record {
-      numbers = r .numbers;
-      flagged = r .flagged;
-      session = r .session;
-      shelf = shelf-of (k .numbers) (k .session) films h;
-      queue = r .queue;
+with-films : (k : Core) (films : List Film) → coreSound k ≡ true → length films ≤ filmRoom (k .session) → every (filmSound (k .numbers)) films ≡ true → uidsApart (k .session) films ≡ true → coreSound (withFilms films k) ≡ true
+with-films k films e few each u =
+    let f = core-facts k e in
+    core-sound (withFilms films k) record {
+      numbers = f .numbers;
+      live = f .live;
+      session = f .session;
+      shelf = shelved-sound (k .numbers) (k .session) films few each;
+      queue = f .queue;
       uids = rw (films-shelved films) u;
-      opening = r .opening;
-    })
+      opened = f .opened;
+    }
 
 -- Deleting.
 
@@ -115,67 +59,52 @@ without-length i films = rw (length-append (take i films) (drop (suc i) films)) 
 pub film-deleted-sound : (k : Core) (i : ℕ) → coreSound k ≡ true → coreSound (filmDeleted k i) ≡ true
 unfolding filmDeleted
 film-deleted-sound k i e =
-    let r = rules-of k e in
-    let h = films-of (k .numbers) (k .session) (k .shelf) (r .shelf) in
-    with-films k (without i (filmsOf (k .shelf))) e
-    (record {
-      few = omega (arith, h .few, without-length i (filmsOf (k .shelf)));
-      each = every-part (filmSound (k .numbers)) (part-without i (filmsOf (k .shelf))) (h .each);
-    })
-    (uids-part (k .session) (part-without i (filmsOf (k .shelf))) (r .uids))
+    let f = core-facts k e in
+    let films = filmsOf (k .shelf) in
+    let few = films-few (k .numbers) (k .session) (k .shelf) (f .shelf) in
+    with-films k (without i films) e
+    (omega (arith, few, without-length i films))
+    (every-part (filmSound (k .numbers)) (part-without i films) (shelf-facts (k .numbers) (k .session) (k .shelf) (f .shelf) .films))
+    (uids-part (k .session) (part-without i films) (f .uids))
 
 -- Setting.
 
--- a film's rules are kept by what a data set gives, where none of it is wrong
-pub film-with-sound : (n : Numbers) (l : Listing) (f : Film) → any (is wrong) (optionalFilm l) ≡ false → filmSound n f ≡ true → filmSound n (filmWith l f) ≡ true
-unfolding filmSound filmWith boxesOf optionalFilm
+-- a film's rules are kept by what a data set gives, where it stands well
+pub film-with-sound : (n : Numbers) (l : Listing) (f : Film) → AllFine (optionalFilm l) → filmSound n f ≡ true → filmSound n (filmWith l f) ≡ true
+unfolding filmWith boxesOf optionalFilm
 film-with-sound n l f w e =
-    let h = all-holds _ e in
-    let a = any-none (is wrong) (optional (code orientations l 0x2010_0040)) (optional (code magnifications l 0x2010_0060) ∷ []) w in
-    let b = any-none (is wrong) (optional (code magnifications l 0x2010_0060)) [] (a .1) in
-    let o = leb-true (f .orientation) 1 (h .1 .1 .0) in
-    let m = leb-true (f .magnification) 3 (h .1 .1 .1 .0) in
-    let o' : orKept blank l 0x2010_0040 (codeIn orientations) (f .orientation) < 2 = code-fine orientations l 0x2010_0040 (f .orientation) (omega arith) (a .0) in
-    let m' : orKept blank l 0x2010_0060 (codeIn magnifications) (f .magnification) < 4 = code-fine magnifications l 0x2010_0060 (f .magnification) (omega arith) (b .0) in
-    holds-all _ (
-      h .0,
-      (
-        h .1 .0,
-        (
-          le-leb (orKept blank l 0x2010_0040 (codeIn orientations) (f .orientation)) 1 (omega arith),
-          (
-            le-leb (orKept blank l 0x2010_0060 (codeIn magnifications) (f .magnification)) 3 (omega arith),
-            h .1 .1 .1 .1,
-          ),
-        ),
-      ),
-    )
+    let t = film-facts n f e in
+    film-sound n (filmWith l f) record {
+      name = t .name;
+      layout = t .layout;
+      orientation = or-kept (λ n. leb n 1 ≡ true) (codeAllowed orientations) l 0x2010_0040 (codeIn orientations) (f .orientation) (w .0) (code-given orientations 1 (omega arith)) (t .orientation);
+      magnification = or-kept (λ n. leb n 3 ≡ true) (codeAllowed magnifications) l 0x2010_0060 (codeIn magnifications) (f .magnification) (w .1 .0) (code-given magnifications 3 (omega arith)) (t .magnification);
+      first = t .first;
+      last = t .last;
+      boxes = t .boxes;
+      behind = t .behind;
+    }
 
-serials-set : (l : Listing) (films : List Film) (i : ℕ) → serialsOf (set films i (filmWith l (getD films i noFilm))) ≡ serialsOf films
-unfolding serialsOf filmWith
-serials-set l [] i = refl
-serials-set l (f ∷ films) zero = refl
-serials-set l (f ∷ films) (suc i) = rw (serials-set l films i)
+-- a film with the same name and serials in the place of another
+serials-set : (films : List Film) (i : ℕ) (f : Film) → f .name ≡ getD films i noFilm .name → f .first ≡ getD films i noFilm .first → f .layout ≡ getD films i noFilm .layout → serialsOf (set films i f) ≡ serialsOf films
+unfolding serialsOf
+serials-set [] i f a b c = refl
+serials-set (x ∷ films) zero f a b c = rw (a, b, c)
+serials-set (x ∷ films) (suc i) f a b c = rw (serials-set films i f a b c)
 
-texts-set : (l : Listing) (films : List Film) (i : ℕ) → map (λ (f : Film). sentText (f .name)) (set films i (filmWith l (getD films i noFilm))) ≡ map (λ (f : Film). sentText (f .name)) films
-unfolding filmWith
-texts-set l films i = map-set-same (λ (f : Film). sentText (f .name)) films i (filmWith l (getD films i noFilm)) noFilm refl
-
-uids-set : (s : Session) (l : Listing) (films : List Film) (i : ℕ) → uidsApart s films ≡ true → uidsApart s (set films i (filmWith l (getD films i noFilm))) ≡ true
+pub uids-set : (s : Session) (films : List Film) (i : ℕ) (f : Film) → f .name ≡ getD films i noFilm .name → f .first ≡ getD films i noFilm .first → f .layout ≡ getD films i noFilm .layout → uidsApart s films ≡ true → uidsApart s (set films i f) ≡ true
 unfolding uidsApart
-uids-set s l films i e = rw (serials-set l films i, texts-set l films i) e
+uids-set s films i f a b c e =
+    rw (serials-set films i f a b c, map-set-same (λ (g : Film). sentText (g .name)) films i f noFilm (ap sentText a)) e
 
 pub film-set-sound : (k : Core) (i : ℕ) (l : Listing) → coreSound k ≡ true → Kept (attributeRules (filmSetStandings l)) → coreSound (filmSet k i l) ≡ true
-unfolding filmSet filmSetStandings
+unfolding filmSet filmSetStandings filmWith
 film-set-sound k i l e w =
-    let r = rules-of k e in
-    let h = films-of (k .numbers) (k .session) (k .shelf) (r .shelf) in
-    let none : any (is wrong) (optionalFilm l) ≡ false = any-behind (is wrong) (mustBeAbsent (look l 0x2010_0010) ∷ mustBeAbsent (look l 0x2010_0500) ∷ []) (optionalFilm l) (w .1 .1 .0) in
+    let c = core-facts k e in
     let films = filmsOf (k .shelf) in
+    let each = shelf-facts (k .numbers) (k .session) (k .shelf) (c .shelf) .films in
     let f = filmWith l (filmAt k i) in
     with-films k (set films i f) e
-    (record {
-      few = rw (length-set films i f) (h .few);
-      each = every-set (filmSound (k .numbers)) films i f (h .each) (λ b. film-with-sound (k .numbers) l (filmAt k i) none (every-at (filmSound (k .numbers)) films i noFilm (h .each) b));
-    })
-    (uids-set (k .session) l films i (r .uids))
+    (rw (length-set films i f) (films-few (k .numbers) (k .session) (k .shelf) (c .shelf)))
+    (every-set (filmSound (k .numbers)) films i f each (λ b. film-with-sound (k .numbers) l (filmAt k i) (kept-fine (filmSetStandings l) w .1 .1) (every-at (filmSound (k .numbers)) films i noFilm each b)))
+    (uids-set (k .session) films i f refl refl refl (c .uids))

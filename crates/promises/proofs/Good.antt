@@ -1,12 +1,12 @@
 -- Records that keep their rules, with arrays of their lengths, fit their fields: packed and unpacked, they are the same.
 -- Assumes nothing.
-use Prim.Native.Nat.{ℕ, zero, suc, _+_, _*_, _%_, _<_, _≤_}
+use Prim.Native.Nat.{ℕ, zero, suc, _+_, _%_, _<_, _≤_}
 use mathlib.Core.Path.{_≡_, refl, subst}
 use mathlib.Core.Bool.{Bool, true, false}
 use mathlib.Core.List.{List, [], _∷_, _++_, append-assoc}
 use native.Mathlib.Omega.{arith}
 use lib.Dec.{eqb, leb, ltb}
-use lib.ListN.{length, getD, take, drop, length-take}
+use lib.ListN.{length, getD, take, drop}
 use borrow.Author.Tests.{leb-true, ltb-true, eqb-true}
 use Rattle.choice.specs.Pick.{pick, both, either, not}
 use Rattle.choice.proofs.Picks.{both-true}
@@ -39,11 +39,10 @@ use Rattle.rules.specs.Layout.{serialFormat, pictureFormat, nameFormat, session
 use Rattle.rules.specs.Outcomes.{held, inputHeld, written}
 use Rattle.rules.proofs.Sizes.{records-size}
 use Rattle.promises.proofs.Packed.{state-laws, unpack-pack, core-unpacked}
-use Rattle.promises.proofs.Every.{all-true}
-use Rattle.promises.proofs.Facts.{between-true, core-facts, numbers-facts, shelf-facts, queue-facts}
-use Rattle.promises.proofs.Sessions.{LabelFacts, session-facts}
-use Rattle.promises.proofs.Laws.{box-facts, film-facts}
-use Rattle.promises.proofs.Keeping.{stateOf}
+use Rattle.promises.proofs.ListLaws.{all-true}
+use Rattle.promises.proofs.Facts.{between-true, core-facts, numbers-facts, shelf-facts, queue-facts, LabelFacts, session-facts, box-facts, film-facts}
+use Rattle.promises.proofs.Layouts.{boxes-most}
+use Rattle.promises.proofs.Kept.{stateOf}
 use Rattle.promises.proofs.Sized.{Each, each-at, each-append, each-take, each-drop, each-join, each-filled, each-told, each-so, filled-length, NameSized, SessionSized, FilmSized, ShelfSized, EntrySized, QueueSized, NumbersSized, Sized}
 
 -- Arrays.
@@ -228,20 +227,13 @@ sum-first zero xs h = absurd (omega arith)
 sum-first (suc n) [] h = omega arith
 sum-first (suc n) (x ∷ xs) h = omega arith
 
-pub sum-most : (xs : List ℕ) → Each (λ (c : ℕ). c ≤ 6) xs → sum xs ≤ 6 * length xs
-unfolding sum
-sum-most [] h = omega arith
-sum-most (x ∷ xs) h = let k = h .0 in let m = sum-most xs (h .1) in omega arith
-
 -- a film has a box, and no more than there are places
 pub box-count : (l : Layout) → layoutSound l ≡ true → (1 ≤ boxCount l) × (boxCount l ≤ mostBoxes)
 unfolding boxCount
 box-count l e =
     let t = layout-facts l e in
     let low = sum-first (l .lines) (l .counts) (t .lines .0) in
-    let high = sum-most (take (l .lines) (l .counts)) (t .counts) in
-    let few : length (take (l .lines) (l .counts)) ≤ 6 = simp length-take (omega (arith, t .lines .1)) in
-    (omega (arith, t .first .0), omega arith)
+    (omega (arith, t .first .0), boxes-most l e)
 
 few-bytes : (xs : List ℕ) → Each (λ (c : ℕ). c ≤ 6) xs → Each Byte xs
 few-bytes [] h = tt

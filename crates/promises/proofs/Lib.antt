@@ -1,45 +1,43 @@
 -- The promises about the book.
-pub mod Packed
-pub mod StrikeOut
-pub mod Fakes
-pub mod Every
+-- Lists, and what the rules of the records say.
+pub mod ListLaws
 pub mod Facts
-pub mod Laws
+pub mod Later
+pub mod Standings
+pub mod Layouts
+pub mod Instances
+pub mod NewNames
+-- The rules of the records are kept: calls, sessions, films, boxes, printing; requests, calls and runs.
 pub mod Calls
 pub mod Sessions
 pub mod NewSession
-pub mod Boxes
-pub mod Named
-pub mod Held
-pub mod Fitting
-pub mod ReadBack
-pub mod FilmBack
-pub mod CreatedFilm
+pub mod Films
 pub mod NewFilm
-pub mod Replies
-pub mod ListLaws
-pub mod Later
-pub mod Codes
-pub mod Layouts
-pub mod Places
+pub mod Boxes
+pub mod Printing
 pub mod Decided
 pub mod Steps
-pub mod Names
-pub mod Standings
-pub mod Films
-pub mod Printing
-pub mod FilmCreated
-pub mod Tickets
-pub mod Numbers
-pub mod Filled
-pub mod Inputs
-pub mod Keeping
+pub mod Collecting
 pub mod Kept
-pub mod Run
+-- Numbers and tickets.
+pub mod Numbers
+pub mod Tickets
+-- What is replied is read back, and fits.
+pub mod ReplySizes
+pub mod Held
+pub mod ReadBack
+pub mod FilmBack
+pub mod Replies
+-- Records and bytes: what a call packs, the next one unpacks.
+pub mod Packed
 pub mod Sized
-pub mod Good
 pub mod SizedAfter
 pub mod SizedSteps
+pub mod Good
 pub mod Unpacked
 pub mod Next
 pub mod NextCalls
+-- Strike-out, a run of it, and the fakes that it admits.
+pub mod StrikeOut
+pub mod Run
+pub mod Fakes

@@ -1,99 +1,134 @@
--- Laws of lists that the promises use.
+-- Laws of lists: of every element, of any, of no two alike, of part of a list, and of filled lists.
 -- Assumes nothing.
-use Prim.Native.Nat.{ℕ, zero, suc, _<_}
-use mathlib.Core.Path.{_≡_, refl}
+use Prim.Native.Nat.{ℕ, zero, suc, _+_, _-_, _<_}
+use mathlib.Core.Path.{_≡_, refl, ap}
 use mathlib.Core.Bool.{Bool, true, false}
 use mathlib.Core.List.{List, [], _∷_, _++_, map}
 use native.Mathlib.Omega.{arith}
-use lib.ListN.{length, getD, set, replicate}
-use lib.Seq.{take-append-seam}
-use Rattle.choice.specs.Pick.{pick}
-use Rattle.choice.proofs.Picks.{both-true, both-holds}
+use lib.Dec.{eqb}
+use lib.ListN.{length, getD, set, take, drop, replicate}
+use lib.Seq.{take-append-seam, drop-append-seam}
+use Rattle.choice.specs.Pick.{pick, either}
+use Rattle.choice.proofs.Picks.{both-true, both-holds, clash}
+use Rattle.rules.specs.Bounds.{mostFilms, mostEntries}
 use Rattle.rules.specs.declared.Film.{Film}
 use Rattle.rules.specs.declared.Entry.{Entry}
-use Rattle.rules.specs.Lists.{every, apart, without}
-use Rattle.rules.specs.Records.{filmsOf, shelved, entriesOf, queued}
-use Rattle.rules.specs.Sound.{all}
+use Rattle.rules.specs.Lists.{every, any, placeOf, apart, filledTo, without, from}
+use Rattle.rules.specs.Records.{noFilm, noEntry, filmsOf, shelved, entriesOf, queued}
+use Rattle.rules.specs.Sound.{all, zeros, filmBlank, entryBlank}
 
--- what is shelved or queued is there
-pub films-shelved : (films : List Film) → filmsOf (shelved films) ≡ films
-unfolding filmsOf shelved
-films-shelved films = take-append-seam films _
+-- Several tests.
 
-pub entries-queued : (es : List Entry) → entriesOf (queued es) ≡ es
-unfolding entriesOf queued
-entries-queued es = take-append-seam es _
+-- each of the tests holds
+abbrev pub AllHold : List Bool → Type 0
+AllHold [] = Unit {0}
+AllHold (test ∷ tests) = (test ≡ true) × AllHold tests
 
--- all tests of a list hold
-abbrev pub Holds : List Bool → Type 0
-Holds [] = Unit {0}
-Holds (test ∷ tests) = (test ≡ true) × Holds tests
-
-pub all-holds : (tests : List Bool) → all tests ≡ true → Holds tests
+pub all-true : (tests : List Bool) → all tests ≡ true → AllHold tests
 unfolding every
-all-holds [] e = tt
-all-holds (test ∷ tests) e = let b = both-true test (all tests) e in (b .0, all-holds tests (b .1))
+all-true [] e = tt
+all-true (test ∷ tests) e = let t = both-true test (all tests) e in (t .0, all-true tests (t .1))
 
-pub holds-all : (tests : List Bool) → Holds tests → all tests ≡ true
+pub all-holds : (tests : List Bool) → AllHold tests → all tests ≡ true
 unfolding every
-holds-all [] h = refl
-holds-all (test ∷ tests) h = both-holds test (all tests) (h .0) (holds-all tests (h .1))
+all-holds [] h = refl
+all-holds (test ∷ tests) h = both-holds test (all tests) (h .0) (all-holds tests (h .1))
+
+-- Every element.
+
+module _ {A : Type 0} (test : A → Bool) where
+  pub every-nil : every test [] ≡ true
+  unfolding every
+  every-nil = refl
+
+  pub every-cons : (x : A) (xs : List A) → test x ≡ true → every test xs ≡ true → every test (x ∷ xs) ≡ true
+  unfolding every
+  every-cons x xs e f = both-holds (test x) (every test xs) e f
+
+  pub every-parts : (x : A) (xs : List A) → every test (x ∷ xs) ≡ true → (test x ≡ true) × (every test xs ≡ true)
+  unfolding every
+  every-parts x xs e = both-true (test x) (every test xs) e
+
+  pub every-one : (x : A) → test x ≡ true → every test (x ∷ []) ≡ true
+  unfolding every
+  every-one x e = rw e
+
+  pub every-append : (xs ys : List A) → every test xs ≡ true → every test ys ≡ true → every test (xs ++ ys) ≡ true
+  unfolding every
+  every-append [] ys e f = f
+  every-append (x ∷ xs) ys e f =
+      let t = both-true (test x) (every test xs) e in
+      both-holds (test x) (every test (xs ++ ys)) (t .0) (every-append xs ys (t .1) f)
+
+  pub every-drop : (n : ℕ) (xs : List A) → every test xs ≡ true → every test (drop n xs) ≡ true
+  unfolding every
+  every-drop zero xs e = e
+  every-drop (suc n) [] e = refl
+  every-drop (suc n) (x ∷ xs) e = every-drop n xs (both-true (test x) (every test xs) e .1)
+
+  -- the new element is tested where the place is in the list
+  pub every-set : (xs : List A) (i : ℕ) (y : A) → every test xs ≡ true → (i < length xs → test y ≡ true) → every test (set xs i y) ≡ true
+  unfolding every
+  every-set [] i y e f = refl
+  every-set (x ∷ xs) zero y e f =
+      both-holds (test y) (every test xs) (f (omega arith)) (both-true (test x) (every test xs) e .1)
+  every-set (x ∷ xs) (suc i) y e f =
+      let t = both-true (test x) (every test xs) e in
+      both-holds (test x) (every test (set xs i y)) (t .0) (every-set xs i y (t .1) (λ h. f (omega arith)))
+
+  pub every-replicate : (n : ℕ) (x : A) → test x ≡ true → every test (replicate n x) ≡ true
+  unfolding every
+  every-replicate zero x e = refl
+  every-replicate (suc n) x e = both-holds (test x) (every test (replicate n x)) e (every-replicate n x e)
+
+  pub every-at : (xs : List A) (i : ℕ) (d : A) → every test xs ≡ true → i < length xs → test (getD xs i d) ≡ true
+  unfolding every
+  every-at [] i d e h = absurd (omega arith)
+  every-at (x ∷ xs) zero d e h = both-true (test x) (every test xs) e .0
+  every-at (x ∷ xs) (suc i) d e h = every-at xs i d (both-true (test x) (every test xs) e .1) (omega arith)
+
+  pub every-map : {B : Type 0} (f : B → A) → ((x : B) → test (f x) ≡ true) → (xs : List B) → every test (map f xs) ≡ true
+  unfolding every
+  every-map f h [] = refl
+  every-map f h (x ∷ xs) = both-holds (test (f x)) (every test (map f xs)) (h x) (every-map f h xs)
+
+  -- a test that follows from this one
+  pub every-so : (other : A → Bool) → ((x : A) → test x ≡ true → other x ≡ true) → (xs : List A) → every test xs ≡ true → every other xs ≡ true
+  unfolding every
+  every-so other f [] e = refl
+  every-so other f (x ∷ xs) e =
+      let t = both-true (test x) (every test xs) e in
+      both-holds (other x) (every other xs) (f x (t .0)) (every-so other f xs (t .1))
+
+pub zeros-replicate : (n : ℕ) → zeros (replicate n 0) ≡ true
+zeros-replicate n = every-replicate (λ (b : ℕ). eqb b 0) n 0 refl
+
+-- Any element.
+
+module _ {A : Type 0} (test : A → Bool) where
+  place-behind : (here : Bool) (xs : List A) → (any test xs ≡ true → placeOf test xs < length xs) → either here (any test xs) ≡ true → pick here 0 (suc (placeOf test xs)) < suc (length xs)
+  place-behind true xs f e = omega arith
+  place-behind false xs f e = let h = f e in omega arith
+
+  found-behind : (x d : A) (here : Bool) (xs : List A) → test x ≡ here → (any test xs ≡ true → test (getD xs (placeOf test xs) d) ≡ true) → either here (any test xs) ≡ true → test (getD (x ∷ xs) (pick here 0 (suc (placeOf test xs))) d) ≡ true
+  found-behind x d true xs h f e = h
+  found-behind x d false xs h f e = f e
+
+  -- where any passes, the first place that does is in the list
+  pub place-below : (xs : List A) → any test xs ≡ true → placeOf test xs < length xs
+  unfolding any placeOf
+  place-below [] e = absurd (clash refl e)
+  place-below (x ∷ xs) e = place-behind (test x) xs (place-below xs) e
+
+  -- and its element passes
+  pub place-passes : (xs : List A) (d : A) → any test xs ≡ true → test (getD xs (placeOf test xs) d) ≡ true
+  unfolding any placeOf
+  place-passes [] d e = absurd (clash refl e)
+  place-passes (x ∷ xs) d e = found-behind x d (test x) xs refl (place-passes xs d) e
+
+-- Part of a list, in its order.
 
 module _ {A : Type 0} where
-  pub every-weak : (t u : A → Bool) → ((x : A) → t x ≡ true → u x ≡ true) → (xs : List A) → every t xs ≡ true → every u xs ≡ true
-  unfolding every
-  every-weak t u f [] e = refl
-  every-weak t u f (x ∷ xs) e =
-      let b = both-true (t x) (every t xs) e in
-      both-holds (u x) (every u xs) (f x (b .0)) (every-weak t u f xs (b .1))
-
-  pub every-append : (t : A → Bool) (xs ys : List A) → every t xs ≡ true → every t ys ≡ true → every t (xs ++ ys) ≡ true
-  unfolding every
-  every-append t [] ys e f = f
-  every-append t (x ∷ xs) ys e f =
-      let b = both-true (t x) (every t xs) e in
-      both-holds (t x) (every t (xs ++ ys)) (b .0) (every-append t xs ys (b .1) f)
-
-  pub every-nil : (t : A → Bool) → every t [] ≡ true
-  unfolding every
-  every-nil t = refl
-
-  pub every-cons : (t : A → Bool) (x : A) (xs : List A) → t x ≡ true → every t xs ≡ true → every t (x ∷ xs) ≡ true
-  unfolding every
-  every-cons t x xs e f = both-holds (t x) (every t xs) e f
-
-  pub every-parts : (t : A → Bool) (x : A) (xs : List A) → every t (x ∷ xs) ≡ true → (t x ≡ true) × (every t xs ≡ true)
-  unfolding every
-  every-parts t x xs e = both-true (t x) (every t xs) e
-
-  pub apart-one : (alike : A → A → Bool) (x : A) → apart alike (x ∷ []) ≡ true
-  unfolding every apart
-  apart-one alike x = refl
-
-  pub every-one : (t : A → Bool) (x : A) → t x ≡ true → every t (x ∷ []) ≡ true
-  unfolding every
-  every-one t x e = rw e
-
-  pub every-replicate : (t : A → Bool) (n : ℕ) (x : A) → t x ≡ true → every t (replicate n x) ≡ true
-  unfolding every
-  every-replicate t zero x e = refl
-  every-replicate t (suc n) x e = both-holds (t x) (every t (replicate n x)) e (every-replicate t n x e)
-
-  pub every-at : (t : A → Bool) (xs : List A) (i : ℕ) (d : A) → every t xs ≡ true → i < length xs → t (getD xs i d) ≡ true
-  unfolding every
-  every-at t [] i d e h = absurd (omega arith)
-  every-at t (x ∷ xs) zero d e h = both-true (t x) (every t xs) e .0
-  every-at t (x ∷ xs) (suc i) d e h = every-at t xs i d (both-true (t x) (every t xs) e .1) (omega arith)
-
-  pub every-set : (t : A → Bool) (xs : List A) (i : ℕ) (y : A) → every t xs ≡ true → (i < length xs → t y ≡ true) → every t (set xs i y) ≡ true
-  unfolding every
-  every-set t [] i y e f = refl
-  every-set t (x ∷ xs) zero y e f = both-holds (t y) (every t xs) (f (omega arith)) (both-true (t x) (every t xs) e .1)
-  every-set t (x ∷ xs) (suc i) y e f =
-      let b = both-true (t x) (every t xs) e in
-      both-holds (t x) (every t (set xs i y)) (b .0) (every-set t xs i y (b .1) (λ h. f (omega arith)))
-
-  -- part of a list, in its order
   pub data Part : List A → List A → Type 0 where
     done : Part [] []
     skip : {xs : List A} {y : A} {ys : List A} → Part xs ys → Part xs (y ∷ ys)
@@ -130,22 +165,67 @@ part-map f done = done
 part-map f (skip p) = skip (part-map f p)
 part-map f (keep p) = keep (part-map f p)
 
-pub every-map : {A B : Type 0} (t : B → Bool) (f : A → B) → ((x : A) → t (f x) ≡ true) → (xs : List A) → every t (map f xs) ≡ true
-unfolding every
-every-map t f h [] = refl
-every-map t f h (x ∷ xs) = both-holds (t (f x)) (every t (map f xs)) (h x) (every-map t f h xs)
+-- No two alike.
 
--- two lists, each apart, and none of the one like one of the other
-pub apart-append : {A : Type 0} (alike : A → A → Bool) (xs ys : List A) → apart alike xs ≡ true → apart alike ys ≡ true → every (λ x. every (λ y. pick (alike x y) false true) ys) xs ≡ true → apart alike (xs ++ ys) ≡ true
-unfolding apart every
-apart-append alike [] ys a b e = b
-apart-append alike (x ∷ xs) ys a b e =
-    let f = both-true (every (λ z. pick (alike x z) false true) xs) (apart alike xs) a in
-    let g = both-true (every (λ z. pick (alike x z) false true) ys) (every (λ z. every (λ y. pick (alike z y) false true) ys) xs) e in
-    both-holds (every (λ z. pick (alike x z) false true) (xs ++ ys)) (apart alike (xs ++ ys))
-    (every-append (λ z. pick (alike x z) false true) xs ys (f .0) (g .0))
-    (apart-append alike xs ys (f .1) b (g .1))
+module _ {A : Type 0} (alike : A → A → Bool) where
+  pub apart-one : (x : A) → apart alike (x ∷ []) ≡ true
+  unfolding every apart
+  apart-one x = refl
+
+  -- one list after another, of which no element is like one of the first
+  pub apart-append : (xs ys : List A) → apart alike xs ≡ true → apart alike ys ≡ true → every (λ x. every (λ y. pick (alike x y) false true) ys) xs ≡ true → apart alike (xs ++ ys) ≡ true
+  unfolding apart every
+  apart-append [] ys e f g = f
+  apart-append (x ∷ xs) ys e f g =
+      let t = both-true (every (λ y. pick (alike x y) false true) xs) (apart alike xs) e in
+      let u = both-true (every (λ y. pick (alike x y) false true) ys) (every (λ z. every (λ y. pick (alike z y) false true) ys) xs) g in
+      both-holds (every (λ y. pick (alike x y) false true) (xs ++ ys)) (apart alike (xs ++ ys))
+      (every-append (λ y. pick (alike x y) false true) xs ys (t .0) (u .0))
+      (apart-append xs ys (t .1) f (u .1))
+
+-- Lists mapped, and counted on from a number.
 
 pub map-append : {A B : Type 0} (f : A → B) (xs ys : List A) → map f (xs ++ ys) ≡ map f xs ++ map f ys
 map-append f [] ys = refl
 map-append f (x ∷ xs) ys = rw (map-append f xs ys)
+
+pub from-length : (n count : ℕ) → length (from n count) ≡ count
+unfolding from
+from-length n zero = refl
+from-length n (suc count) = ap suc (from-length (n + 1) count)
+
+-- Filled lists.
+
+module _ {A : Type 0} (m : ℕ) (blank : A) (xs : List A) where
+  pub take-filled : (n : ℕ) → n ≡ length xs → take n (filledTo m blank xs) ≡ xs
+  take-filled n e = rw e (take-append-seam xs (replicate (m - length xs) blank))
+
+  pub drop-filled : (n : ℕ) → n ≡ length xs → drop n (filledTo m blank xs) ≡ replicate (m - length xs) blank
+  drop-filled n e = rw e (drop-append-seam xs (replicate (m - length xs) blank))
+
+  -- what is behind is blank
+  pub behind-filled : (test : A → Bool) → test blank ≡ true → every test (drop (length xs) (filledTo m blank xs)) ≡ true
+  behind-filled test e = rw (drop-filled (length xs) refl) (every-replicate test (m - length xs) blank e)
+
+pub films-shelved : (films : List Film) → filmsOf (shelved films) ≡ films
+unfolding filmsOf shelved
+films-shelved films = take-filled mostFilms noFilm films (length films) refl
+
+pub entries-queued : (entries : List Entry) → entriesOf (queued entries) ≡ entries
+unfolding entriesOf queued
+entries-queued entries = take-filled mostEntries noEntry entries (length entries) refl
+
+film-blank : filmBlank noFilm ≡ true
+unfolding every
+film-blank = refl
+
+entry-blank : entryBlank noEntry ≡ true
+unfolding every
+entry-blank = refl
+
+-- behind the films and the entries nothing is
+pub films-behind : (films : List Film) → every filmBlank (drop (length films) (filledTo mostFilms noFilm films)) ≡ true
+films-behind films = behind-filled mostFilms noFilm films filmBlank film-blank
+
+pub entries-behind : (entries : List Entry) → every entryBlank (drop (length entries) (filledTo mostEntries noEntry entries)) ≡ true
+entries-behind entries = behind-filled mostEntries noEntry entries entryBlank entry-blank

@@ -25,11 +25,10 @@ use Rattle.rules.specs.Layout.{recordsSize, unpack}
 use Rattle.rules.specs.Sound.{between, zeros, flag, openSound, openedSound, coreSound, inputSound, sound}
 use Rattle.rules.specs.Calls.{Handed, printing}
 use Rattle.rules.specs.Outcomes.{commandHeld, inputIn, recordsIn, written}
-use Rattle.promises.proofs.Every.{all-true}
+use Rattle.promises.proofs.ListLaws.{all-true}
 use Rattle.promises.proofs.Facts.{between-true, core-facts}
-use Rattle.promises.proofs.Inputs.{Fits, in-fits, held-in}
-use Rattle.promises.proofs.Keeping.{stateOf, call-sound}
-use Rattle.promises.proofs.Kept.{all-keep}
+use Rattle.promises.proofs.Collecting.{Fits, in-fits, held-in}
+use Rattle.promises.proofs.Kept.{stateOf, call-sound}
 use Rattle.promises.proofs.Good.{CommandFits, InputFits, written-back}
 use Rattle.promises.proofs.SizedSteps.{step-sized}
 use Rattle.promises.proofs.Unpacked.{unpacked-sized, unpacked-command, CallBytes, step-fits}
@@ -68,7 +67,7 @@ afterCall b message c = step printing (recordsIn (unpack b) message) c .records
 
 module _ (b message : List ℕ) (c : Call Handed) (o : Bytes b) (bytes : CallBytes c) (e : sound (unpack b) ≡ true) where
   after-sound : sound (stateOf (afterCall b message c)) ≡ true
-  after-sound = call-sound all-keep (unpack b) message c e
+  after-sound = call-sound (unpack b) message c e
 
   after-fits : InputFits (afterCall b message c .input)
   after-fits =

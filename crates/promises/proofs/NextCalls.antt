@@ -30,9 +30,8 @@ use Rattle.fields.proofs.Laws.{read-write}
 use Rattle.promises.proofs.Packed.{state-laws}
 use Rattle.promises.proofs.Sized.{Each, Sized}
 use Rattle.promises.proofs.SizedAfter.{started-sized}
-use Rattle.promises.proofs.Inputs.{fits-sound}
-use Rattle.promises.proofs.Keeping.{stateOf, call-sound}
-use Rattle.promises.proofs.Kept.{all-keep}
+use Rattle.promises.proofs.Collecting.{fits-sound}
+use Rattle.promises.proofs.Kept.{stateOf, call-sound}
 use Rattle.promises.proofs.SizedSteps.{step-sized}
 use Rattle.promises.proofs.Good.{Byte, good-core, written-back}
 use Rattle.promises.proofs.Unpacked.{unpacked-good, unpacked-sized, CallBytes}
@@ -106,7 +105,7 @@ takes-sound b entry h o e =
     (λ n. e)
     (λ r. took-sound (x .records) b entry (x .answer) e
     (core-written-sound (x .records .core) b o (long-enough b r)
-    (sound-parts (stateOf (x .records)) (call-sound all-keep (unpack b) [] (aside h) e) .0)
+    (sound-parts (stateOf (x .records)) (call-sound (unpack b) [] (aside h) e) .0)
     (step-sized (recordsIn (unpack b) []) (aside h) (unpacked-sized b o))
     (ap (λ (w : Opened). inputSound w (unpack b .input)) (open-kept (check (unpack b .core) (aside h)) (recordsIn (unpack b) []) h) ∙ sound-parts (unpack b) e .1)))
 

@@ -15,15 +15,19 @@ use Rattle.strike.specs.Machine.{Records, step}
 use Rattle.rules.specs.declared.Numbers.{Numbers}
 use Rattle.rules.specs.declared.Core.{Core}
 use Rattle.rules.specs.Bounds.{noneLeft}
-use Rattle.rules.specs.Records.{boxCount, filmsOf, noFilm, noBox, pictureUsed}
+use Rattle.rules.specs.Records.{boxCount, filmsOf, noFilm, noBox, pictureUsed, theBox, named}
 use Rattle.rules.specs.Attributes.{Listing, Image, keeps, erases, tooMany, fills, imageIn, isFill, boxWith, pictureAfter, filmWith}
 use Rattle.rules.specs.Effects.{ownSerials, nameFrom, noPictureLeft, numbersAfter, sessionCreated, newFilm, filmSerials, filmCreated, sessionSet, filmSet, boxSet, boxSetIn, filmAt, sessionDeleted, filmDeleted, printed}
 use Rattle.rules.specs.Responses.{Reply}
 use Rattle.rules.specs.Checks.{newSessionRules, newFilmRules, boxRules, decide}
+use Rattle.rules.specs.Sound.{filmSound, coreSound}
 use Rattle.rules.specs.Calls.{Handed, opened, closed, taken, printing}
-use Rattle.promises.proofs.ListLaws.{films-shelved}
+use Rattle.promises.proofs.ListLaws.{films-shelved, every-at}
+use Rattle.promises.proofs.Facts.{core-facts, shelf-facts, film-facts}
+use Rattle.promises.proofs.Layouts.{boxes-most}
+use Rattle.promises.proofs.Instances.{named-box}
 use Rattle.promises.proofs.Decided.{After, decided-does}
-use Rattle.promises.proofs.Steps.{Each, step-kept}
+use Rattle.promises.proofs.Steps.{AfterCalls, step-kept}
 
 -- next numbers are never lower
 pub record Grown (before after : Numbers) : Type 0 where
@@ -73,7 +77,7 @@ module _ (k : Core) where
   unfolding taken
   taken-numbers h = refl
 
-  each-grown : Each (λ k'. Grown (k .numbers) (k' .numbers)) k
+  each-grown : AfterCalls (λ k'. Grown (k .numbers) (k' .numbers)) k
   each-grown = record {
     open-kept = λ h r. rw (opened-numbers h) (same-numbers (k .numbers));
     close-kept = rw closed-numbers (same-numbers (k .numbers));
@@ -156,6 +160,15 @@ module _ (k : Core) (i j : ℕ) (l : Listing) (fill : isFill (imageIn l) ≡ tru
   picture-small s h =
       let left = eqb-false (k .numbers .picture) noneLeft (both-second (isFill (imageIn l)) (noPictureLeft (k .numbers)) (h .1 .1 .1 .0) fill) in
       omega arith
+
+-- so the box that a UID names, where its film has room for 36 boxes, as its bytes have
+pub filled-picture : (k : Core) (uid : List ℕ) (i j : ℕ) (l : Listing) → coreSound k ≡ true → length (filmAt k i .boxes) ≡ 36 → named k uid ≡ theBox i j → isFill (imageIn l) ≡ true → getD (filmAt (boxSet k i j l) i .boxes) j noBox .picture .0 ≡ k .numbers .picture
+filled-picture k uid i j l e room b fill =
+    let t = named-box k uid i j b in
+    let film = every-at (filmSound (k .numbers)) (filmsOf (k .shelf)) i noFilm (shelf-facts (k .numbers) (k .session) (k .shelf) (core-facts k e .shelf) .films) (t .0) in
+    let most = boxes-most (filmAt k i .layout) (film-facts (k .numbers) (filmAt k i) film .layout) in
+    let place = t .1 in
+    box-picture k i j l fill (t .0) (omega arith)
 
 -- nothing else uses a picture number
 pub box-kept-numbers : (k : Core) (i j : ℕ) (l : Listing) → isFill (imageIn l) ≡ false → boxSet k i j l .numbers ≡ k .numbers

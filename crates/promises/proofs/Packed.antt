@@ -1,14 +1,13 @@
 -- Records and bytes are one to one: what is packed is unpacked, and what is unpacked is packed.
 -- Assumes nothing.
-use Prim.Native.Nat.{ℕ, _+_, _-_, _≤_}
-use mathlib.Core.Path.{_≡_, refl, sym, ap, _∙_}
+use Prim.Native.Nat.{ℕ, _+_, _-_}
+use mathlib.Core.Path.{_≡_, refl, sym, _∙_}
 use mathlib.Core.List.{List}
 use native.Mathlib.Omega.{arith}
-use lib.ListN.{length, take}
+use lib.ListN.{length}
 use lib.Seq.{take-all}
 use Rattle.octets.specs.Octets.{part, Bytes}
 use Rattle.octets.proofs.Laid.{stands-first}
-use Rattle.fields.specs.Format.{byte}
 use Rattle.fields.proofs.Laws.{Laws, byte-laws, number-laws, _then-laws_, array-laws, via-laws}
 use Rattle.rules.specs.declared.State.{State}
 use Rattle.rules.specs.Bounds.{commandLimit, mostFilms, mostBoxes, mostEntries, rootLimit}

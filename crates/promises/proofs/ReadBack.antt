@@ -28,7 +28,7 @@ use Rattle.writing.proofs.ListBack.{data-set-back}
 use Rattle.rules.specs.Commands.{inCommand, placed, bytesOf, uidAt, hasNumber, numberIn, lengthTold, hasData}
 use Rattle.rules.specs.Responses.{Says, Note, uidElement, actionElement, dataSetType, responseElements, responseTree, reply}
 use Rattle.promises.proofs.Held.{Has, here, later, Lacks, never, other, Holds, whole-holds, whole-lacks}
-use Rattle.promises.proofs.Fitting.{Brief, from1000, from0900, from0800, from0120, from0100, elements-short, tree-length, response-fit}
+use Rattle.promises.proofs.ReplySizes.{Brief, from1000, from0900, from0800, from0120, from0100, elements-short, tree-length, response-fit}
 
 -- Values.
 

@@ -3,18 +3,15 @@
 use Prim.Native.Nat.{ℕ, _≤_}
 use mathlib.Core.Path.{_≡_, refl}
 use mathlib.Core.Bool.{true}
-use mathlib.Core.List.{List, [], _∷_, _++_}
+use mathlib.Core.List.{List, [], _++_}
 use mathlib.Core.Option.{Option, none, some}
 use native.Mathlib.Omega.{arith}
-use lib.Dec.{eqb, leb}
+use lib.Dec.{eqb}
 use lib.ListN.{length, length-take}
-use borrow.Author.Tests.{leb-true}
-use Rattle.choice.specs.Pick.{both, not}
-use Rattle.choice.specs.Rules.{Rule, _⇒_}
-use Rattle.choice.proofs.Picks.{pick-cases, Kept, first-cases, not-false, both-true, both-second, either-false}
-use Rattle.uids.specs.Uids.{components, isUid, made}
+use Rattle.choice.specs.Pick.{both}
+use Rattle.choice.proofs.Picks.{pick-cases, Kept, first-cases, both-true}
+use Rattle.uids.specs.Uids.{isUid, made}
 use Rattle.uids.proofs.Made.{made-short}
-use Rattle.headers.specs.declared.Part.{Part}
 use Rattle.strike.specs.Service.{DataSet, Result, fails, does}
 use Rattle.rules.specs.declared.Core.{Core}
 use Rattle.rules.specs.declared.Operation.{Operation}
@@ -28,16 +25,12 @@ use Rattle.rules.specs.Effects.{newFilm}
 use Rattle.rules.specs.Attributes.{Listing, listingOf}
 use Rattle.rules.specs.Commands.{inCommand, placed, uidAt, hasUid, hasTarget, hasNumber, field, requestIn, wellFormed, understood}
 use Rattle.rules.specs.Responses.{Note, noNote, Reply, reply}
-use Rattle.rules.specs.Checks.{Class, verification, sessions, films, boxes, unknownClass, classOf, classPart, isSent, createRules, generalRules, createPlan, setPlan, actionPlan, deletePlan, planOf, sentUid, newUid, dataOf, failedInstance, says, saysUnknown, failed, answered, decideRequest, decideCommand, decide}
-use Rattle.promises.proofs.Fitting.{Short, Brief, reply-fits}
+use Rattle.rules.specs.Checks.{Class, verification, sessions, films, boxes, unknownClass, classOf, classPart, isSent, createRules, generalRules, Done, createPlan, setPlan, actionPlan, deletePlan, planOf, sentUid, newUid, dataOf, failedInstance, says, saysUnknown, failed, answered, decideRequest, decideCommand, decide}
+use Rattle.promises.proofs.NewNames.{uid-short, sendable, sent-short}
+use Rattle.promises.proofs.Decided.{kept-both}
+use Rattle.promises.proofs.ReplySizes.{Short, Brief, reply-fits}
 use Rattle.promises.proofs.ReadBack.{ResponseMeans, response-means}
-use Rattle.promises.proofs.FilmBack.{FilmMeans}
-use Rattle.promises.proofs.NewFilm.{new-film-fits, new-film-means}
-
--- a UID has at most 64 characters
-uid-short : (u : List ℕ) → isUid u ≡ true → length u ≤ 64
-unfolding isUid
-uid-short u e = leb-true (length u) 64 (both-true (leb (length u) 64) (components [] u) e .0)
+use Rattle.promises.proofs.FilmBack.{FilmMeans, new-film-fits, new-film-means}
 
 -- Requests that are known name their class and their instance by UIDs.
 
@@ -100,61 +93,6 @@ new-short k sent h s =
     (λ _. omega (arith, made-short (rootOf (k .numbers)) (k .numbers .serial) h)))
     (λ _. simp length-take (omega arith))
 
-sent-short : (k : Core) (c : List ℕ) (sent : Part) → Kept (createRules k c sent) → length (sentUid c sent) ≤ 64
-unfolding createRules
-sent-short k c sent kept =
-    pick-cases (λ (u : List ℕ). length u ≤ 64) (isSent sent) (uidAt c sent) []
-    (λ e. uid-short (uidAt c sent) (not-false (isUid (uidAt c sent)) (either-false (not (isUid (uidAt c sent))) _ (both-second (isSent sent) _ (kept .0) e) .0)))
-    (λ _. omega arith)
-
-create-short : (k : Core) (class : Class) (sent : List ℕ) (l : Listing) → length (newUid k sent) ≤ 64 → Short (createPlan k class sent l .done .instance)
-unfolding createPlan
-create-short k verification sent l h = tt
-create-short k sessions sent l h = h
-create-short k films sent l h = h
-create-short k boxes sent l h = tt
-create-short k unknownClass sent l h = tt
-
-set-short : (k : Core) (i : Instance) (uid : List ℕ) (l : Listing) → length uid ≤ 64 → Short (setPlan k i uid l .done .instance)
-unfolding setPlan
-set-short k nobody uid l h = tt
-set-short k theSession uid l h = h
-set-short k (theFilm i) uid l h = h
-set-short k (theBox i j) uid l h = h
-
-action-short : (k : Core) (i : Instance) (uid : List ℕ) → length uid ≤ 64 → Short (actionPlan k i uid .done .instance)
-unfolding actionPlan
-action-short k nobody uid h = tt
-action-short k theSession uid h = h
-action-short k (theFilm i) uid h = h
-action-short k (theBox i j) uid h = tt
-
-delete-short : (k : Core) (i : Instance) (uid : List ℕ) → length uid ≤ 64 → Short (deletePlan k i uid .done .instance)
-unfolding deletePlan
-delete-short k nobody uid h = tt
-delete-short k theSession uid h = h
-delete-short k (theFilm i) uid h = h
-delete-short k (theBox i j) uid h = tt
-
-kept-first : (a b : List Rule) → Kept (a ++ b) → Kept a
-kept-first [] b k = tt
-kept-first ((broken ⇒ n) ∷ a) b k = (k .0, kept-first a b (k .1))
-
-kept-second : (a b : List Rule) → Kept (a ++ b) → Kept b
-kept-second [] b k = k
-kept-second ((broken ⇒ n) ∷ a) b k = kept-second a b (k .1)
-
-done-short : (k : Core) (c : List ℕ) (d : DataSet) (o : Operation) → length (rootOf (k .numbers)) ≤ rootLimit → Sound c o → Kept (planOf k c d o .rules) → Short (planOf k c d o .done .instance)
-unfolding planOf
-done-short k c d (Echo r) h s kept = tt
-done-short k c d (Create r) h s kept =
-    create-short k (classOf (uidAt c (r .class))) (sentUid c (r .sent)) (listingOf (dataOf d) (explicitVR k))
-    (new-short k (sentUid c (r .sent)) h (sent-short k c (r .sent) (kept-first (createRules k c (r .sent)) _ kept)))
-done-short k c d (Set r) h s kept =
-    set-short k (named k (uidAt c (r .instance))) (uidAt c (r .instance)) (listingOf (dataOf d) (explicitVR k)) (uid-short (uidAt c (r .instance)) (s .1))
-done-short k c d (Act r) h s kept = action-short k (named k (uidAt c (r .instance))) (uidAt c (r .instance)) (uid-short (uidAt c (r .instance)) (s .1))
-done-short k c d (Delete r) h s kept = delete-short k (named k (uidAt c (r .instance))) (uidAt c (r .instance)) (uid-short (uidAt c (r .instance)) (s .1))
-
 -- The data set of a request that is done: none, or that of a new film, which is read back and fits its buffer.
 
 pub data Carries (k : Core) : List ℕ → Type 0 where
@@ -165,42 +103,50 @@ pub carries-fits : {k : Core} {b : List ℕ} → Carries k b → length b ≤ da
 carries-fits noData = omega arith
 carries-fits (boxData sent l means fits) = fits
 
-create-carries : (k : Core) (class : Class) (sent : List ℕ) (l : Listing) → length (rootOf (k .numbers)) ≤ rootLimit → Carries k (createPlan k class sent l .done .dataSet)
+-- What is told of a request that is done: an instance of at most 64 characters or none, and such a data set.
+abbrev Told : Core → Done → Type 0
+Told k x = Short (x .instance) × Carries k (x .dataSet)
+
+create-told : (k : Core) (class : Class) (sent : List ℕ) (l : Listing) → length (rootOf (k .numbers)) ≤ rootLimit → length (newUid k sent) ≤ 64 → Told k (createPlan k class sent l .done)
 unfolding createPlan
-create-carries k verification sent l h = noData
-create-carries k sessions sent l h = noData
-create-carries k films sent l h = boxData sent l (new-film-means k sent l h (explicitVR k)) (new-film-fits k sent l h (explicitVR k))
-create-carries k boxes sent l h = noData
-create-carries k unknownClass sent l h = noData
+create-told k verification sent l h s = (tt, noData)
+create-told k sessions sent l h s = (s, noData)
+create-told k films sent l h s = (s, boxData sent l (new-film-means k sent l h (explicitVR k)) (new-film-fits k sent l h (explicitVR k)))
+create-told k boxes sent l h s = (tt, noData)
+create-told k unknownClass sent l h s = (tt, noData)
 
-set-carries : (k : Core) (i : Instance) (uid : List ℕ) (l : Listing) → Carries k (setPlan k i uid l .done .dataSet)
+set-told : (k : Core) (i : Instance) (uid : List ℕ) (l : Listing) → length uid ≤ 64 → Told k (setPlan k i uid l .done)
 unfolding setPlan
-set-carries k nobody uid l = noData
-set-carries k theSession uid l = noData
-set-carries k (theFilm i) uid l = noData
-set-carries k (theBox i j) uid l = noData
+set-told k nobody uid l s = (tt, noData)
+set-told k theSession uid l s = (s, noData)
+set-told k (theFilm i) uid l s = (s, noData)
+set-told k (theBox i j) uid l s = (s, noData)
 
-action-carries : (k : Core) (i : Instance) (uid : List ℕ) → Carries k (actionPlan k i uid .done .dataSet)
+action-told : (k : Core) (i : Instance) (uid : List ℕ) → length uid ≤ 64 → Told k (actionPlan k i uid .done)
 unfolding actionPlan
-action-carries k nobody uid = noData
-action-carries k theSession uid = noData
-action-carries k (theFilm i) uid = noData
-action-carries k (theBox i j) uid = noData
+action-told k nobody uid s = (tt, noData)
+action-told k theSession uid s = (s, noData)
+action-told k (theFilm i) uid s = (s, noData)
+action-told k (theBox i j) uid s = (tt, noData)
 
-delete-carries : (k : Core) (i : Instance) (uid : List ℕ) → Carries k (deletePlan k i uid .done .dataSet)
+delete-told : (k : Core) (i : Instance) (uid : List ℕ) → length uid ≤ 64 → Told k (deletePlan k i uid .done)
 unfolding deletePlan
-delete-carries k nobody uid = noData
-delete-carries k theSession uid = noData
-delete-carries k (theFilm i) uid = noData
-delete-carries k (theBox i j) uid = noData
+delete-told k nobody uid s = (tt, noData)
+delete-told k theSession uid s = (s, noData)
+delete-told k (theFilm i) uid s = (s, noData)
+delete-told k (theBox i j) uid s = (tt, noData)
 
-done-carries : (k : Core) (c : List ℕ) (d : DataSet) (o : Operation) → length (rootOf (k .numbers)) ≤ rootLimit → Carries k (planOf k c d o .done .dataSet)
+done-told : (k : Core) (c : List ℕ) (d : DataSet) (o : Operation) → length (rootOf (k .numbers)) ≤ rootLimit → Sound c o → Kept (planOf k c d o .rules) → Told k (planOf k c d o .done)
 unfolding planOf
-done-carries k c d (Echo r) h = noData
-done-carries k c d (Create r) h = create-carries k (classOf (uidAt c (r .class))) (sentUid c (r .sent)) (listingOf (dataOf d) (explicitVR k)) h
-done-carries k c d (Set r) h = set-carries k (named k (uidAt c (r .instance))) (uidAt c (r .instance)) (listingOf (dataOf d) (explicitVR k))
-done-carries k c d (Act r) h = action-carries k (named k (uidAt c (r .instance))) (uidAt c (r .instance))
-done-carries k c d (Delete r) h = delete-carries k (named k (uidAt c (r .instance))) (uidAt c (r .instance))
+done-told k c d (Echo r) h s kept = (tt, noData)
+done-told k c d (Create r) h s kept =
+    let u = sentUid c (r .sent) in
+    create-told k (classOf (uidAt c (r .class))) u (listingOf (dataOf d) (explicitVR k)) h
+    (new-short k u h (sent-short k u (sendable k c (r .sent) (kept-both (createRules k c (r .sent)) _ kept .0))))
+done-told k c d (Set r) h s kept =
+    set-told k (named k (uidAt c (r .instance))) (uidAt c (r .instance)) (listingOf (dataOf d) (explicitVR k)) (uid-short (uidAt c (r .instance)) (s .1))
+done-told k c d (Act r) h s kept = action-told k (named k (uidAt c (r .instance))) (uidAt c (r .instance)) (uid-short (uidAt c (r .instance)) (s .1))
+done-told k c d (Delete r) h s kept = delete-told k (named k (uidAt c (r .instance))) (uidAt c (r .instance)) (uid-short (uidAt c (r .instance)) (s .1))
 
 -- Replies.
 
@@ -229,7 +175,9 @@ unfolding decideRequest
 request-answered k c d r h s =
     first-cases (Answered k c d r) (failed c r) (generalRules k c d (r .operation) ++ planOf k c d (r .operation) .rules) (answered c r (planOf k c d (r .operation) .done))
     (λ status. answers k c r _ status _ _ s (failed-short c (r .operation) s) noData)
-    (λ kept. answers k c r _ _ _ _ s (done-short k c d (r .operation) h s (kept-second (generalRules k c d (r .operation)) (planOf k c d (r .operation) .rules) kept)) (done-carries k c d (r .operation) h))
+    (λ kept.
+    let t = done-told k c d (r .operation) h s (kept-both (generalRules k c d (r .operation)) (planOf k c d (r .operation) .rules) kept .1) in
+    answers k c r _ _ _ _ s (t .0) (t .1))
 
 -- A command that is not known is answered with its field and message number alone, and 0211H.
 pub record AnswersUnknown (message field : ℕ) (p : Reply) : Type 0 where

@@ -1,7 +1,7 @@
 -- Demand 3 at work: a run of the book's own calls, whole and without four of its messages, computed.
 -- Assumes nothing.
 use mathlib.Core.Path.{_≡_, refl}
-use mathlib.Core.Bool.{Bool, true, false}
+use mathlib.Core.Bool.{Bool}
 use mathlib.Core.List.{List, [], _∷_, map}
 use Prim.Native.Nat.{ℕ}
 use lib.Dec.{eqb, ltb}
@@ -12,7 +12,7 @@ use Rattle.strike.specs.Machine.{headerWrong, fragmentIn, skips, reads, gathers
 use Rattle.strike.specs.Machine as machine
 use Rattle.strike.specs.Machine.{Input, idle, inData, Records, Answer}
 use Rattle.strike.specs.Messages.{mayBegin, unfinished, roleOfFragment, countAfter, messageOf, cutBy, struck, without, strikeable, says, isOf, fateOf, roleIf, roleOf, eventOf, historyFrom, history, answers, after}
-use Rattle.strike.specs.Messages.{Fate, succeeded, failed, wasDropped, wasCutOff, callsOf, answersOf}
+use Rattle.strike.specs.Messages.{succeeded, failed, wasDropped, wasCutOff, callsOf}
 use Rattle.rules.specs.declared.Core.{Core}
 use Rattle.rules.specs.Responses.{Reply}
 use Rattle.rules.specs.Calls.{Handed, printing, check, started, opened, closed, pictureBytes, entryBytes, taken, reading}

@@ -1,33 +1,31 @@
 -- A session set keeps the rules of the records.
 -- Assumes nothing.
-use Prim.Native.Nat.{ℕ, _+_, _≤_, _<_}
+use Prim.Native.Nat.{ℕ, _≤_}
 use mathlib.Core.Path.{_≡_, refl, ap, _∙_}
 use mathlib.Core.Bool.{Bool, true, false}
 use mathlib.Core.List.{List, [], _∷_}
 use native.Mathlib.Omega.{arith}
 use lib.Dec.{eqb, leb}
-use lib.ListN.{length, take, drop}
-use borrow.Author.Tests.{leb-true, le-leb, ltb-true, eqb-false}
+use lib.ListN.{length}
+use borrow.Author.Tests.{leb-true, eqb-false}
 use Rattle.choice.specs.Pick.{pick, both, not}
-use Rattle.choice.proofs.Picks.{Kept, pick-cases, both-true, either-false, not-true, clash}
+use Rattle.choice.proofs.Picks.{Kept, pick-cases, both-true, not-true, clash}
 use Rattle.octets.specs.Octets.{same}
 use Rattle.octets.proofs.Same.{same-self}
 use Rattle.uids.specs.Uids.{digits}
-use Rattle.elements.specs.declared.Found.{Found}
-use Rattle.elements.specs.declared.Found.the-variants.{Missing, Value, Sequence}
 use Rattle.rules.specs.declared.Session.{Session}
 use Rattle.rules.specs.declared.Shelf.{Shelf}
 use Rattle.rules.specs.declared.Numbers.{Numbers}
 use Rattle.rules.specs.declared.Core.{Core}
-use Rattle.rules.specs.Lists.{any, every, filledTo}
+use Rattle.rules.specs.Lists.{every, filledTo}
 use Rattle.rules.specs.Values.{withoutLeading, withoutTrailing, unlessSpace, trimmed, noBytes, blank, unsigned, decimalValue, countIn, codeIn, priorities, media, destinations, labelByte, labelAllowed}
 use Rattle.rules.specs.Records.{isLive, filmsOf}
-use Rattle.rules.specs.Commands.{bytesOf, placed}
-use Rattle.rules.specs.Attributes.{Listing, look, valueOf, Standing, empty, wrong, fineIf, mandatory, optional, is, attributeRules, given, orKept, codeAllowed, code, sessionStandings, sessionWith}
+use Rattle.rules.specs.Attributes.{Listing, look, valueOf, attributeRules, given, codeAllowed, sessionStandings, sessionWith}
 use Rattle.rules.specs.Effects.{sessionSet}
-use Rattle.rules.specs.Sound.{between, zeros, labelOf, nameSound, sessionSound, sessionBlank, shelfSound, uidsApart, coreSound}
-use Rattle.promises.proofs.Every.{all-true, all-holds, take-filled, behind-filled}
-use Rattle.promises.proofs.Facts.{between-holds, core-facts, core-sound}
+use Rattle.rules.specs.Sound.{between, nameSound, sessionSound, sessionBlank, shelfSound, uidsApart, coreSound}
+use Rattle.promises.proofs.ListLaws.{take-filled, behind-filled}
+use Rattle.promises.proofs.Facts.{between-holds, core-facts, core-sound, LabelFacts, ValueFacts, session-sound, live-facts}
+use Rattle.promises.proofs.Standings.{kept-fine, given-allowed, or-kept, code-given}
 
 -- A text trimmed is not trimmed further.
 
@@ -58,24 +56,7 @@ pub trimmed-trimmed : (v : List ℕ) → trimmed (trimmed v) ≡ trimmed v
 unfolding trimmed
 trimmed-trimmed v = ap withoutTrailing (lead-trail v) ∙ trail-trail (withoutLeading v)
 
--- What is given is allowed.
-
-value-allowed : (isEmpty allowed : Bool) → is wrong (optional (pick isEmpty empty (fineIf allowed))) ≡ false → not isEmpty ≡ true → allowed ≡ true
-value-allowed true allowed e f = absurd (clash refl f)
-value-allowed false true e f = refl
-value-allowed false false e f = absurd (clash e refl)
-
-pub given-allowed : (isEmpty allowed : List ℕ → Bool) (l : Listing) (found : Found) → is wrong (optional (mandatory isEmpty allowed l found)) ≡ false → given isEmpty l found ≡ true → allowed (bytesOf (l .bytes) (placed found)) ≡ true
-given-allowed isEmpty allowed l Missing e f = absurd (clash refl f)
-given-allowed isEmpty allowed l (Value p) e f = value-allowed (isEmpty (bytesOf (l .bytes) p)) (allowed (bytesOf (l .bytes) p)) e f
-given-allowed isEmpty allowed l (Sequence inside) e f = absurd (clash e refl)
-
--- a fact of what is given or kept
-pub or-kept : {A : Type 0} (P : A → Type 0) (allowed : List ℕ → Bool) (l : Listing) (tag : ℕ) (read : List ℕ → A) (kept : A) → is wrong (optional (mandatory blank allowed l (look l tag))) ≡ false → ((v : List ℕ) → allowed v ≡ true → P (read v)) → P kept → P (orKept blank l tag read kept)
-or-kept P allowed l tag read kept e f h =
-    pick-cases P (given blank l (look l tag)) (read (valueOf l tag)) kept
-    (λ g. f (valueOf l tag) (given-allowed blank allowed l (look l tag) e g))
-    (λ g. h)
+-- What is given.
 
 count-most : (most : ℕ) (v : List ℕ) → countIn most v ≤ most
 unfolding countIn
@@ -95,18 +76,7 @@ copies-given v e =
     let h = count-most 99 v in
     between-holds 1 99 (countIn 99 v) (omega arith) h
 
-pub code-given : (texts : List (List ℕ)) (most : ℕ) → length texts ≤ most + 1 → (v : List ℕ) → codeAllowed texts v ≡ true → leb (codeIn texts v) most ≡ true
-code-given texts most h v e =
-    let k : codeIn texts v < length texts = ltb-true (codeIn texts v) (length texts) e in
-    le-leb (codeIn texts v) most (omega arith)
-
 -- The label.
-
-pub record LabelFacts (used : ℕ) (label : List ℕ) : Type 0 where
-  pub short : leb used 64 ≡ true
-  pub allowed : labelAllowed (take used label) ≡ true
-  pub bare : same (trimmed (take used label)) (take used label) ≡ true
-  pub behind : zeros (drop used label) ≡ true
 
 label-text : (t : List ℕ) → leb (length t) 64 ≡ true → labelAllowed t ≡ true → same (trimmed t) t ≡ true → LabelFacts (length t) (filledTo 64 0 t)
 label-text t e f g =
@@ -132,99 +102,26 @@ label-kept false newUsed used newLabel label f h = h
 
 -- The session.
 
-abbrev sessionTests : Numbers → Session → List Bool
-sessionTests n s =
-    nameSound n (s .name)
-    ∷ between 1 99 (s .copies)
-    ∷ leb (s .priority) 2
-    ∷ leb (s .medium) 2
-    ∷ leb (s .destination) 1
-    ∷ leb (s .used) 64
-    ∷ labelAllowed (labelOf s)
-    ∷ same (trimmed (labelOf s)) (labelOf s)
-    ∷ zeros (drop (s .used) (s .label))
-    ∷ []
-
--- all but the name
-pub record ValueFacts (s : Session) : Type 0 where
-  pub copies : between 1 99 (s .copies) ≡ true
-  pub priority : leb (s .priority) 2 ≡ true
-  pub medium : leb (s .medium) 2 ≡ true
-  pub destination : leb (s .destination) 1 ≡ true
-  pub label : LabelFacts (s .used) (s .label)
-
-pub session-facts : (n : Numbers) (s : Session) → sessionSound n s ≡ true → (nameSound n (s .name) ≡ true) × ValueFacts s
-session-facts n s e =
-    let t = all-true (sessionTests n s) e in (
-      t .0,
-      record {
-        copies = t .1 .0;
-        priority = t .1 .1 .0;
-        medium = t .1 .1 .1 .0;
-        destination = t .1 .1 .1 .1 .0;
-        label = record {
-          short = t .1 .1 .1 .1 .1 .0;
-          allowed = t .1 .1 .1 .1 .1 .1 .0;
-          bare = t .1 .1 .1 .1 .1 .1 .1 .0;
-          behind = t .1 .1 .1 .1 .1 .1 .1 .1 .0;
-        };
-      },
-    )
-
-pub session-sound : (n : Numbers) (s : Session) → nameSound n (s .name) ≡ true → ValueFacts s → sessionSound n s ≡ true
-session-sound n s e f =
-    all-holds (sessionTests n s)
-    (e, (f .copies, (f .priority, (f .medium, (f .destination, (f .label .short, (f .label .allowed, (f .label .bare, (f .label .behind, tt)))))))))
-
--- no attribute has a value that is not allowed
-abbrev RightValues : Listing → Type 0
-RightValues l =
-    (is wrong (optional (mandatory blank (λ v. not (eqb (countIn 99 v) 0)) l (look l 0x2000_0010))) ≡ false)
-    × (is wrong (optional (code priorities l 0x2000_0020)) ≡ false)
-    × (is wrong (optional (code media l 0x2000_0030)) ≡ false)
-    × (is wrong (optional (code destinations l 0x2000_0040)) ≡ false)
-    × (is wrong (optional (mandatory blank labelAllowed l (look l 0x2000_0050))) ≡ false)
-
-none-of-five : (test : Standing → Bool) (a b c d e : Standing) → any test (a ∷ b ∷ c ∷ d ∷ e ∷ []) ≡ false → (test a ≡ false) × (test b ≡ false) × (test c ≡ false) × (test d ≡ false) × (test e ≡ false)
-unfolding any
-none-of-five test a b c d e h =
-    let t = either-false (test a) (any test (b ∷ c ∷ d ∷ e ∷ [])) h in
-    let u = either-false (test b) (any test (c ∷ d ∷ e ∷ [])) (t .1) in
-    let v = either-false (test c) (any test (d ∷ e ∷ [])) (u .1) in
-    let w = either-false (test d) (any test (e ∷ [])) (v .1) in
-    (t .0, u .0, v .0, w .0, either-false (test e) false (w .1) .0)
-
-right-values : (l : Listing) → Kept (attributeRules (sessionStandings l)) → RightValues l
-unfolding sessionStandings
-right-values l r =
-    none-of-five (is wrong)
-    (optional (mandatory blank (λ v. not (eqb (countIn 99 v) 0)) l (look l 0x2000_0010)))
-    (optional (code priorities l 0x2000_0020))
-    (optional (code media l 0x2000_0030))
-    (optional (code destinations l 0x2000_0040))
-    (optional (mandatory blank labelAllowed l (look l 0x2000_0050)))
-    (r .1 .1 .0)
-
 -- a session with what the data set gives has allowed values
 pub values-with : (l : Listing) (s : Session) → Kept (attributeRules (sessionStandings l)) → ValueFacts s → ValueFacts (sessionWith l s)
-unfolding sessionWith
+unfolding sessionWith sessionStandings
 values-with l s r f =
-    let t = right-values l r in
+    let t = kept-fine (sessionStandings l) r in
     record {
       copies = or-kept (λ n. between 1 99 n ≡ true) (λ v. not (eqb (countIn 99 v) 0)) l 0x2000_0010 (countIn 99) (s .copies) (t .0) copies-given (f .copies);
-      priority = or-kept (λ n. leb n 2 ≡ true) (codeAllowed priorities) l 0x2000_0020 (codeIn priorities) (s .priority) (t .1) (code-given priorities 2 (omega arith)) (f .priority);
-      medium = or-kept (λ n. leb n 2 ≡ true) (codeAllowed media) l 0x2000_0030 (codeIn media) (s .medium) (t .2) (code-given media 2 (omega arith)) (f .medium);
-      destination = or-kept (λ n. leb n 1 ≡ true) (codeAllowed destinations) l 0x2000_0040 (codeIn destinations) (s .destination) (t .3) (code-given destinations 1 (omega arith)) (f .destination);
+      priority = or-kept (λ n. leb n 2 ≡ true) (codeAllowed priorities) l 0x2000_0020 (codeIn priorities) (s .priority) (t .1 .0) (code-given priorities 2 (omega arith)) (f .priority);
+      medium = or-kept (λ n. leb n 2 ≡ true) (codeAllowed media) l 0x2000_0030 (codeIn media) (s .medium) (t .1 .1 .0) (code-given media 2 (omega arith)) (f .medium);
+      destination = or-kept (λ n. leb n 1 ≡ true) (codeAllowed destinations) l 0x2000_0040 (codeIn destinations) (s .destination) (t .1 .1 .1 .0) (code-given destinations 1 (omega arith)) (f .destination);
       label =
           label-kept (given blank l (look l 0x2000_0050))
           (length (trimmed (valueOf l 0x2000_0050))) (s .used) (filledTo 64 0 (trimmed (valueOf l 0x2000_0050))) (s .label)
-          (λ g. label-given (valueOf l 0x2000_0050) (given-allowed blank labelAllowed l (look l 0x2000_0050) (t .4) g))
+          (λ g. label-given (valueOf l 0x2000_0050) (given-allowed blank labelAllowed l (look l 0x2000_0050) (t .1 .1 .1 .1 .0) g))
           (f .label);
     }
 
-pub session-with : (n : Numbers) (l : Listing) (s : Session) → Kept (attributeRules (sessionStandings l)) → sessionSound n s ≡ true → sessionSound n (sessionWith l s) ≡ true
+session-with : (n : Numbers) (l : Listing) (s : Session) → Kept (attributeRules (sessionStandings l)) → (nameSound n (s .name) ≡ true) × ValueFacts s → sessionSound n (sessionWith l s) ≡ true
 unfolding sessionWith
-session-with n l s r e = let f = session-facts n s e in session-sound n (sessionWith l s) (f .0) (values-with l s r (f .1))
+session-with n l s r f = session-sound n (sessionWith l s) (f .0) (values-with l s r (f .1))
 
 -- the films under a session are told by whether it is live
 shelf-live : (n : Numbers) (l : Listing) (s : Session) (shelf : Shelf) → shelfSound n s shelf ≡ true → shelfSound n (sessionWith l s) shelf ≡ true
@@ -234,10 +131,6 @@ shelf-live n l s shelf e = e
 uids-named : (l : Listing) (s : Session) (shelf : Shelf) → uidsApart s (filmsOf shelf) ≡ true → uidsApart (sessionWith l s) (filmsOf shelf) ≡ true
 unfolding uidsApart sessionWith
 uids-named l s shelf e = e
-
-live-sound : (live : Bool) (a b : Bool) → live ≡ true → pick live a b ≡ true → a ≡ true
-live-sound true a b e f = f
-live-sound false a b e f = absurd (clash refl e)
 
 live-holds : (live : Bool) (a b : Bool) → live ≡ true → a ≡ true → pick live a b ≡ true
 live-holds true a b e f = f
@@ -252,8 +145,7 @@ session-set-sound k l e live r =
       live = f .live;
       session =
           live-holds (isLive (k .session)) (sessionSound (k .numbers) (sessionWith l (k .session))) (sessionBlank (sessionWith l (k .session))) live
-          (session-with (k .numbers) l (k .session) r
-          (live-sound (isLive (k .session)) (sessionSound (k .numbers) (k .session)) (sessionBlank (k .session)) live (f .session)));
+          (session-with (k .numbers) l (k .session) r (live-facts (k .numbers) (k .session) (f .session) live));
       shelf = shelf-live (k .numbers) l (k .session) (k .shelf) (f .shelf);
       queue = f .queue;
       uids = uids-named l (k .session) (k .shelf) (f .uids);

@@ -7,12 +7,11 @@ use mathlib.Core.List.{List, [], _∷_, _++_, map}
 use native.Mathlib.Omega.{arith}
 use native.Mathlib.Nat.{mod-lt}
 use lib.Dec.{eqb, leb, ltb}
-use lib.ListN.{length, getD, set, take, drop, replicate, length-append, length-take, length-drop, length-set, length-map, length-replicate}
+use lib.ListN.{length, set, drop, length-append, length-take, length-drop, length-set, length-map}
 use borrow.Author.Tests.{leb-true, ltb-false, eqb-false}
-use Rattle.choice.specs.Pick.{pick, both, not}
-use Rattle.choice.proofs.Picks.{Kept, pick-cases, both-true, either-false}
-use Rattle.octets.specs.Octets.{same}
-use Rattle.uids.specs.Uids.{isUid, components}
+use Rattle.choice.specs.Pick.{pick, not}
+use Rattle.choice.proofs.Picks.{Kept, both-true, either-false}
+use Rattle.uids.specs.Uids.{isUid}
 use Rattle.headers.specs.declared.Part.{Part}
 use Rattle.rules.specs.Bounds.{mostFilms, mostBoxes, mostEntries, rootLimit, tickets}
 use Rattle.rules.specs.declared.Session.{Session}
@@ -22,20 +21,18 @@ use Rattle.rules.specs.declared.Entry.{Entry}
 use Rattle.rules.specs.declared.Queue.{Queue}
 use Rattle.rules.specs.declared.Numbers.{Numbers}
 use Rattle.rules.specs.declared.Core.{Core}
-use Rattle.rules.specs.Text.{chars}
 use Rattle.rules.specs.Lists.{every, from, filledTo, without}
-use Rattle.rules.specs.Values.{withoutTrailing, trimmed, blank, labelByte, labelAllowed, oneToSix, standard, countsIn}
+use Rattle.rules.specs.Values.{trimmed, blank, labelByte, labelAllowed, countsIn}
 use Rattle.rules.specs.Records.{madeName, sentName, boxCount, boxesOf, noBox, noFilm, filmsOf, shelved, noEntry, entriesOf, queued, noSession, newSession}
-use Rattle.rules.specs.Attributes.{Listing, look, valueOf, missing, wrong, mandatory, optional, is, attributeRules, sessionStandings, sessionWith, filmWith, layoutIn, Image, keeps, erases, tooMany, fills, imageIn}
+use Rattle.rules.specs.Attributes.{Listing, look, valueOf, fine, mandatory, optional, attributeRules, sessionStandings, sessionWith, filmWith, layoutIn, Image, keeps, erases, tooMany, fills, imageIn}
 use Rattle.rules.specs.Effects.{nameFrom, nextTicket, sessionCreated, newBox, newFilm, filmCreated, sessionSet, filmAt, filmSet, boxSetIn, numbersAfter, boxSet, sessionDeleted, filmDeleted, pictureOn, entryOf, entriesFor, ticketAfter, printed, queueRoom}
 use Rattle.rules.specs.Checks.{createRules, newSessionRules, newFilmRules, sentUid, sessionPrintRules, filmPrintRules}
 use Rattle.rules.specs.Calls.{Handed, startRules, started, opened, closed, taken}
-use Rattle.promises.proofs.Every.{none-at, take-filled}
-use Rattle.promises.proofs.Sessions.{or-kept}
-use Rattle.promises.proofs.NewSession.{sent-uid}
-use Rattle.promises.proofs.Layouts.{from-length}
-use Rattle.promises.proofs.Sized.{Each, each-or, each-append, each-take, each-drop, each-without, each-set, each-replicate, each-filled, filled-length, NameSized, SessionSized, FilmSized, ShelfSized, EntrySized, QueueSized, NumbersSized, Sized}
-use Rattle.promises.proofs.Good.{sum-most}
+use Rattle.promises.proofs.ListLaws.{from-length}
+use Rattle.promises.proofs.Standings.{kept-fine, or-kept}
+use Rattle.promises.proofs.Layouts.{lines-few, layout-few}
+use Rattle.promises.proofs.NewNames.{sendable, sent-short}
+use Rattle.promises.proofs.Sized.{Each, each-or, each-append, each-take, each-drop, each-without, each-set, each-filled, filled-length, NameSized, SessionSized, FilmSized, ShelfSized, EntrySized, QueueSized, NumbersSized, Sized}
 
 -- Nothing live.
 
@@ -128,10 +125,10 @@ film-deleted-sized k i z =
 
 -- Sessions.
 
--- no label is given that is not allowed
-label-right : (l : Listing) → Kept (attributeRules (sessionStandings l)) → is wrong (optional (mandatory blank labelAllowed l (look l 0x2000_0050))) ≡ false
+-- a label that is given is allowed
+label-right : (l : Listing) → Kept (attributeRules (sessionStandings l)) → optional (mandatory blank labelAllowed l (look l 0x2000_0050)) ≡ fine
 unfolding sessionStandings
-label-right l r = none-at (is wrong) (sessionStandings l) 4 missing (r .1 .1 .0) (omega arith)
+label-right l r = kept-fine (sessionStandings l) r .1 .1 .1 .1 .0
 
 label-given : (v : List ℕ) → labelAllowed v ≡ true → length (filledTo 64 0 (trimmed v)) ≡ 64
 unfolding labelAllowed
@@ -148,19 +145,14 @@ pub session-set-sized : (k : Core) (l : Listing) → Kept (attributeRules (sessi
 unfolding sessionSet
 session-set-sized k l r z = record { numbers = z .numbers; session = session-with-sized l (k .session) r (z .session); shelf = z .shelf; queue = z .queue }
 
--- a UID is no longer than 64, none that is empty neither
-uid-short : (uid : List ℕ) → (1 ≤ length uid → isUid uid ≡ true) → length uid ≤ 64
-unfolding isUid
-uid-short [] f = omega arith
-uid-short (c ∷ uid) f = leb-true (length (c ∷ uid)) 64 (both-true (leb (length (c ∷ uid)) 64) (components [] (c ∷ uid)) (f (omega arith)) .0)
-
 name-sized : (n : Numbers) (uid : List ℕ) (unsent : Bool) → length uid ≤ 64 → NameSized (pick unsent (madeName (n .serial)) (sentName uid))
 name-sized n uid true h = refl
 name-sized n uid false h = filled-length 64 0 uid h
 
 new-name-sized : (k : Core) (c : List ℕ) (sent : Part) → Kept (createRules k c sent) → NameSized (nameFrom (k .numbers) (sentUid c sent))
 new-name-sized k c sent r =
-    name-sized (k .numbers) (sentUid c sent) (eqb (length (sentUid c sent)) 0) (uid-short (sentUid c sent) (λ h. sent-uid k c sent r h .0))
+    let u = sentUid c sent in
+    name-sized (k .numbers) u (eqb (length u) 0) (sent-short k u (sendable k c sent r))
 
 pub session-created-sized : (k : Core) (c : List ℕ) (sent : Part) (l : Listing) → Kept (createRules k c sent) → Kept (newSessionRules k (sentUid c sent) l) → Sized k → Sized (sessionCreated k (sentUid c sent) l)
 unfolding sessionCreated
@@ -216,45 +208,9 @@ box-set-sized k i j l z =
 
 -- A film created.
 
-abbrev Few : ℕ → Type 0
-Few c = c ≤ 6
-
-standard-digits : (t : List ℕ) → standard t ≡ true → (getD t 9 0 ≤ 54) × (getD t 11 0 ≤ 54)
-unfolding standard
-standard-digits t e =
-    let last = oneToSix (getD t 11 0) in
-    let comma = both (eqb (getD t 10 0) 0x2C) last in
-    let first = oneToSix (getD t 9 0) in
-    let a = both-true (same (take 9 t) (chars "STANDARD\\")) (both (eqb (length t) 12) (both first comma)) e in
-    let b = both-true (eqb (length t) 12) (both first comma) (a .1) in
-    let c = both-true first comma (b .1) in
-    let d = both-true (eqb (getD t 10 0) 0x2C) last (c .1) in (
-      leb-true (getD t 9 0) 54 (both-true (leb 49 (getD t 9 0)) (leb (getD t 9 0) 54) (c .0) .1),
-      leb-true (getD t 11 0) 54 (both-true (leb 49 (getD t 11 0)) (leb (getD t 11 0) 54) (d .1) .1),
-    )
-
--- whatever a text says, it gives no more than six lines of six boxes
-counts-few : (v : List ℕ) → (length (countsIn v) ≤ 6) × Each Few (countsIn v)
-unfolding countsIn
-counts-few v =
-    let t = withoutTrailing v in
-    pick-cases (λ (counts : List ℕ). (length counts ≤ 6) × Each Few counts) (standard t) (replicate (getD t 11 0 - 48) (getD t 9 0 - 48)) []
-    (λ e.
-    let d = standard-digits t e in
-    (simp length-replicate (omega (arith, d .1)), each-replicate Few (getD t 11 0 - 48) (getD t 9 0 - 48) (omega (arith, d .0))))
-    (λ e. (omega arith, tt))
-
 layout-sized : (l : Listing) → length (layoutIn l .counts) ≡ 6
 unfolding layoutIn
-layout-sized l = let v = valueOf l 0x2010_0010 in filled-length 6 0 (countsIn v) (counts-few v .0)
-
-pub layout-boxes : (l : Listing) → boxCount (layoutIn l) ≤ mostBoxes
-unfolding layoutIn boxCount
-layout-boxes l =
-    let counts = countsIn (valueOf l 0x2010_0010) in
-    let t = counts-few (valueOf l 0x2010_0010) in
-    let most = sum-most counts (t .1) in
-    rw (take-filled 6 0 counts (length counts) refl) (omega (arith, t .0))
+layout-sized l = let v = valueOf l 0x2010_0010 in filled-length 6 0 (countsIn v) (lines-few v)
 
 new-boxes-sized : (count : ℕ) → count ≤ mostBoxes → length (filledTo mostBoxes noBox (map newBox (from 1 count))) ≡ mostBoxes
 new-boxes-sized count h =
@@ -263,7 +219,7 @@ new-boxes-sized count h =
 
 new-film-sized : (k : Core) (sent : List ℕ) (l : Listing) → NameSized (nameFrom (k .numbers) sent) → FilmSized (newFilm k sent l)
 unfolding newFilm filmWith
-new-film-sized k sent l h = record { name = h; counts = layout-sized l; boxes = new-boxes-sized (boxCount (layoutIn l)) (layout-boxes l) }
+new-film-sized k sent l h = record { name = h; counts = layout-sized l; boxes = new-boxes-sized (boxCount (layoutIn l)) (layout-few l) }
 
 one-more : {A : Type 0} (most : ℕ) (xs : List A) (x : A) → length xs ≤ most → eqb (length xs) most ≡ false → length (xs ++ (x ∷ [])) ≤ most
 one-more most xs x h e =

@@ -1,12 +1,15 @@
 -- Attributes that stand well: what check 8 tells of each.
 -- Assumes nothing.
-use Prim.Native.Nat.{ℕ}
-use mathlib.Core.Path.{_≡_, refl}
+use Prim.Native.Nat.{ℕ, _+_, _≤_, _<_}
+use mathlib.Core.Path.{_≡_, refl, ap}
 use mathlib.Core.Bool.{Bool, true, false}
 use mathlib.Core.List.{List, [], _∷_, _++_}
 use native.Mathlib.Omega.{arith}
-use Rattle.choice.specs.Pick.{pick, both}
-use Rattle.choice.proofs.Picks.{Kept, both-true, clash}
+use lib.Dec.{leb}
+use lib.ListN.{length}
+use borrow.Author.Tests.{ltb-true, le-leb}
+use Rattle.choice.specs.Pick.{pick, both, not}
+use Rattle.choice.proofs.Picks.{Kept, pick-cases, both-true, either-false, clash}
 use Rattle.elements.specs.declared.Found.{Found}
 use Rattle.elements.specs.declared.Found.the-variants.{Missing, Value, Sequence}
 use Rattle.elements.specs.declared.Items.{Items}
@@ -15,11 +18,10 @@ use Rattle.octets.specs.Octets.{same}
 use Rattle.uids.specs.Uids.{isUid, unpadded}
 use Rattle.rules.specs.declared.Core.{Core}
 use Rattle.rules.specs.Lists.{any}
-use Rattle.rules.specs.Values.{noBytes}
+use Rattle.rules.specs.Values.{noBytes, blank, codeIn}
 use Rattle.rules.specs.Records.{uidOf, isLive}
 use Rattle.rules.specs.Commands.{bytesOf, placed}
-use Rattle.rules.specs.Attributes.{Listing, look, itemsFound, onlyItem, Standing, missing, empty, wrong, fine, fineIf, is, mandatory, attributeRules, referenceStandings, reference}
-use Rattle.promises.proofs.Codes.{any-none}
+use Rattle.rules.specs.Attributes.{Listing, look, valueOf, itemsFound, onlyItem, Standing, missing, empty, wrong, fine, fineIf, is, mandatory, optional, given, orKept, codeAllowed, attributeRules, referenceStandings, reference}
 
 abbrev pub AllFine : List Standing → Type 0
 AllFine [] = Unit {0}
@@ -30,6 +32,10 @@ one-fine missing a b c = absurd (clash a refl)
 one-fine empty a b c = absurd (clash b refl)
 one-fine wrong a b c = absurd (clash c refl)
 one-fine fine a b c = refl
+
+any-none : (t : Standing → Bool) (x : Standing) (xs : List Standing) → any t (x ∷ xs) ≡ false → (t x ≡ false) × (any t xs ≡ false)
+unfolding any
+any-none t x xs e = either-false (t x) (any t xs) e
 
 fine-all : (standings : List Standing) → any (is missing) standings ≡ false → any (is empty) standings ≡ false → any (is wrong) standings ≡ false → AllFine standings
 fine-all [] a b c = tt
@@ -47,20 +53,57 @@ pub fine-front : (xs ys : List Standing) → AllFine (xs ++ ys) → AllFine xs
 fine-front [] ys h = tt
 fine-front (x ∷ xs) ys h = (h .0, fine-front xs ys (h .1))
 
+pub fine-behind : (xs ys : List Standing) → AllFine (xs ++ ys) → AllFine ys
+fine-behind [] ys h = h
+fine-behind (x ∷ xs) ys h = fine-behind xs ys (h .1)
+
+unfine : (s : Standing) → is fine s ≡ false → s ≡ fine → ⊥
+unfine s h e = clash h (ap (is fine) e)
+
+-- What is mandatory.
+
 picked-fine : (isEmpty allowed : Bool) → pick isEmpty empty (fineIf allowed) ≡ fine → allowed ≡ true
-picked-fine true allowed e = absurd (let z : _≡_ {A = ℕ} 0 1 = cc in omega arith)
+picked-fine true allowed e = absurd (unfine empty refl e)
 picked-fine false true e = refl
-picked-fine false false e = absurd (let z : _≡_ {A = ℕ} 0 1 = cc in omega arith)
+picked-fine false false e = absurd (unfine wrong refl e)
 
 -- a mandatory value that stands well is allowed
 pub mandatory-fine : (isEmpty allowed : List ℕ → Bool) (l : Listing) (found : Found) → mandatory isEmpty allowed l found ≡ fine → allowed (bytesOf (l .bytes) (placed found)) ≡ true
-mandatory-fine isEmpty allowed l Missing e = absurd (let z : _≡_ {A = ℕ} 0 1 = cc in omega arith)
+mandatory-fine isEmpty allowed l Missing e = absurd (unfine missing refl e)
 mandatory-fine isEmpty allowed l (Value p) e = picked-fine (isEmpty (bytesOf (l .bytes) p)) (allowed (bytesOf (l .bytes) p)) e
-mandatory-fine isEmpty allowed l (Sequence inside) e = absurd (let z : _≡_ {A = ℕ} 0 1 = cc in omega arith)
+mandatory-fine isEmpty allowed l (Sequence inside) e = absurd (unfine wrong refl e)
+
+-- What is optional.
+
+value-allowed : (isEmpty allowed : Bool) → optional (pick isEmpty empty (fineIf allowed)) ≡ fine → not isEmpty ≡ true → allowed ≡ true
+value-allowed true allowed e f = absurd (clash refl f)
+value-allowed false true e f = refl
+value-allowed false false e f = absurd (unfine wrong refl e)
+
+-- an optional value that is given and stands well is allowed
+pub given-allowed : (isEmpty allowed : List ℕ → Bool) (l : Listing) (found : Found) → optional (mandatory isEmpty allowed l found) ≡ fine → given isEmpty l found ≡ true → allowed (bytesOf (l .bytes) (placed found)) ≡ true
+given-allowed isEmpty allowed l Missing e f = absurd (clash refl f)
+given-allowed isEmpty allowed l (Value p) e f = value-allowed (isEmpty (bytesOf (l .bytes) p)) (allowed (bytesOf (l .bytes) p)) e f
+given-allowed isEmpty allowed l (Sequence inside) e f = absurd (unfine wrong refl e)
+
+-- a fact of what is given or kept
+pub or-kept : {A : Type 0} (P : A → Type 0) (allowed : List ℕ → Bool) (l : Listing) (tag : ℕ) (read : List ℕ → A) (kept : A) → optional (mandatory blank allowed l (look l tag)) ≡ fine → ((v : List ℕ) → allowed v ≡ true → P (read v)) → P kept → P (orKept blank l tag read kept)
+or-kept P allowed l tag read kept e f h =
+    pick-cases P (given blank l (look l tag)) (read (valueOf l tag)) kept
+    (λ g. f (valueOf l tag) (given-allowed blank allowed l (look l tag) e g))
+    (λ g. h)
+
+-- a text that is one of those allowed has a code
+pub code-given : (texts : List (List ℕ)) (most : ℕ) → length texts ≤ most + 1 → (v : List ℕ) → codeAllowed texts v ≡ true → leb (codeIn texts v) most ≡ true
+code-given texts most h v e =
+    let k : codeIn texts v < length texts = ltb-true (codeIn texts v) (length texts) e in
+    le-leb (codeIn texts v) most (omega arith)
+
+-- What refers to the session.
 
 module _ (k : Core) (l : Listing) where
   items-live : (items : Items) → AllFine (referenceStandings k l items) → isLive (k .session) ≡ true
-  items-live Empty h = absurd (let s = h .0 in let z : _≡_ {A = ℕ} 0 1 = cc in omega arith)
+  items-live Empty h = absurd (unfine _ refl (h .0))
   items-live (One inside) h =
       let only = onlyItem l inside in
       let named : List ℕ → Bool = λ u. both (isLive (k .session)) (same u (uidOf (k .numbers) (k .session .name))) in
@@ -68,10 +111,10 @@ module _ (k : Core) (l : Listing) where
       let a = mandatory-fine noBytes (λ v. both (isUid (unpadded v)) (named (unpadded v))) only (look only 0x0008_1155) (h .1 .0) in
       let b = both-true (isUid (unpadded v)) (named (unpadded v)) a in
       both-true (isLive (k .session)) (same (unpadded v) (uidOf (k .numbers) (k .session .name))) (b .1) .0
-  items-live (Several n) h = absurd (let s = h .0 in let z : _≡_ {A = ℕ} 0 1 = cc in omega arith)
+  items-live (Several n) h = absurd (unfine _ refl (h .0))
 
   -- a reference to the session that stands well names a live one
   pub reference-live : (found : Found) → AllFine (reference k l found) → isLive (k .session) ≡ true
-  reference-live Missing h = absurd (let s = h .0 in let z : _≡_ {A = ℕ} 0 1 = cc in omega arith)
-  reference-live (Value p) h = absurd (let s = h .0 in let z : _≡_ {A = ℕ} 0 1 = cc in omega arith)
+  reference-live Missing h = absurd (unfine _ refl (h .0))
+  reference-live (Value p) h = absurd (unfine _ refl (h .0))
   reference-live (Sequence inside) h = items-live (itemsFound l (Sequence inside)) h

@@ -1,6 +1,5 @@
 -- A fact of the records after a call: it holds if it holds after what each call does, and so after any run of calls.
 -- Assumes nothing.
-use Prim.Native.Nat.{ℕ}
 use mathlib.Core.Path.{_≡_, refl}
 use mathlib.Core.Option.{Option, none, some}
 use mathlib.Core.List.{List, [], _∷_}
@@ -14,14 +13,29 @@ use Rattle.rules.specs.Checks.{decide}
 use Rattle.rules.specs.Calls.{Handed, startRules, openRules, takeRules, rulesOf, check, started, opened, closed, taken, reading, printing}
 use Rattle.promises.proofs.Decided.{After, OfDone, decided}
 
+-- Any fact of the records.
+
+-- one call: it leaves the records as they are, or is not refused
+pub step-cases : (P : Records Core → Type 0) (s : Records Core) (c : Call Handed) → P s → (Kept (rulesOf (s .core) c) → P (checked printing passes s c .records)) → P (step printing s c .records)
+unfolding step check checked
+step-cases P s c p f = first-cases (λ (x : Check). P (checked printing x s c .records)) refuses (rulesOf (s .core) c) passes (λ n. p) f
+
+-- a run of calls
+pub run-cases : (P : Records Core → Type 0) → ((s : Records Core) (c : Call Handed) → P s → P (step printing s c .records)) → (s : Records Core) (cs : List (Call Handed)) → P s → P (messages.after printing s cs)
+unfolding messages.after
+run-cases P f s [] p = p
+run-cases P f s (c ∷ cs) p = run-cases P f (step printing s c .records) cs (f s c p)
+
+-- A fact of the core.
+
 -- a fact holds after each call but start
-pub record Each (P : Core → Type 0) (k : Core) : Type 0 where
+pub record AfterCalls (P : Core → Type 0) (k : Core) : Type 0 where
   pub open-kept : (h : Handed) → Kept (openRules k h) → P (opened k h)
   pub close-kept : P (closed k)
   pub take-kept : (h : Handed) → Kept (takeRules k h) → P (taken k h .0)
   pub request-kept : After P k
 
-module _ (P : Core → Type 0) (s : Records Core) (each : Each P (s .core)) where
+module _ (P : Core → Type 0) (s : Records Core) (each : AfterCalls P (s .core)) where
   result-kept : (d : DataSet) (x : Result Core Reply) → OfDone P x → P (answered printing (s .core) d x .records .core)
   unfolding answered
   result-kept d (fails r) h = each .request-kept .kept
@@ -47,17 +61,10 @@ module _ (P : Core → Type 0) (s : Records Core) (each : Each P (s .core)) wher
   passed-kept (close h) f r = each .close-kept
   passed-kept (aside h) f r = each .take-kept h r
 
-  refused-kept : (c : Call Handed) (n : ℕ) → P (checked printing (refuses n) s c .records .core)
-  unfolding checked
-  refused-kept c n = each .request-kept .kept
-
   -- one call
   pub step-kept : (c : Call Handed) → ((h : Handed) → c ≡ start h → Kept (startRules h) → P (started h)) → P (step printing s c .records .core)
-  unfolding step check
-  step-kept c f = first-cases (λ (x : Check). P (checked printing x s c .records .core)) refuses (rulesOf (s .core) c) passes (refused-kept c) (passed-kept c f)
+  step-kept c f = step-cases (λ (x : Records Core). P (x .core)) s c (each .request-kept .kept) (passed-kept c f)
 
 -- a run of calls
-pub run-kept : (P : Core → Type 0) → ((h : Handed) → Kept (startRules h) → P (started h)) → ((k : Core) → P k → Each P k) → (s : Records Core) (cs : List (Call Handed)) → P (s .core) → P (messages.after printing s cs .core)
-unfolding messages.after
-run-kept P f g s [] p = p
-run-kept P f g s (c ∷ cs) p = run-kept P f g (step printing s c .records) cs (step-kept P s (g (s .core) p) c (λ h e r. f h r))
+pub run-kept : (P : Core → Type 0) → ((h : Handed) → Kept (startRules h) → P (started h)) → ((k : Core) → P k → AfterCalls P k) → (s : Records Core) (cs : List (Call Handed)) → P (s .core) → P (messages.after printing s cs .core)
+run-kept P f g = run-cases (λ (s : Records Core). P (s .core)) (λ s c p. step-kept P s (g (s .core) p) c (λ h e r. f h r))

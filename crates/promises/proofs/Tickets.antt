@@ -22,7 +22,7 @@ use Rattle.rules.specs.Checks.{decide}
 use Rattle.rules.specs.Calls.{Handed, started, opened, closed, taken, printing}
 use Rattle.promises.proofs.ListLaws.{entries-queued}
 use Rattle.promises.proofs.Decided.{After, decided-does}
-use Rattle.promises.proofs.Steps.{Each, run-kept}
+use Rattle.promises.proofs.Steps.{AfterCalls, run-kept}
 
 -- the tickets of entries follow each other from the first on, up to the next
 abbrev pub Follow : ℕ → List Entry → ℕ → Type 0
@@ -163,7 +163,7 @@ module _ (k : Core) (c : Ticketed k) where
   pub decided-ticketed : (b : List ℕ) (d : DataSet) (k' : Core) (r : Reply) → decide k b d ≡ does k' r → Ticketed k'
   decided-ticketed = decided-does Ticketed k after-ticketed
 
-  pub each-ticketed : Each Ticketed k
+  pub each-ticketed : AfterCalls Ticketed k
   each-ticketed = record {
     open-kept = λ h r. opened-ticketed h;
     close-kept = closed-ticketed;

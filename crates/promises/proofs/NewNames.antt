@@ -1,13 +1,12 @@
 -- Names that are new: they keep their rules, and differ from those held.
 -- Assumes nothing.
-use Prim.Native.Nat.{ℕ, _+_, _-_, _<_, _≤_}
+use Prim.Native.Nat.{ℕ, _+_, _<_, _≤_}
 use mathlib.Core.Path.{_≡_, refl}
 use mathlib.Core.Bool.{Bool, true, false}
 use mathlib.Core.List.{List, [], _∷_}
 use native.Mathlib.Omega.{arith}
 use lib.Dec.{eqb, leb, ltb}
-use lib.ListN.{length, take, replicate}
-use lib.Seq.{take-append-seam, drop-append-seam}
+use lib.ListN.{length, take}
 use borrow.Author.Tests.{ltb-true, lt-ltb, le-ltb, leb-true, eqb-true, eqb-false, ne-eqb}
 use Rattle.choice.specs.Pick.{pick, both, either, not}
 use Rattle.choice.proofs.Picks.{Kept, pick-cases, both-true, both-second, either-false, not-false, clash}
@@ -23,8 +22,13 @@ use Rattle.rules.specs.Commands.{uidAt}
 use Rattle.rules.specs.Effects.{ownSerials, nameFrom}
 use Rattle.rules.specs.Checks.{isNobody, isSent, createRules, sentUid}
 use Rattle.rules.specs.Sound.{nameSound, nameBlank, sentSound, madeSound, Serials, overlap, ownSerial, sentText, sameText}
-use Rattle.promises.proofs.ListLaws.{all-holds, holds-all, every-replicate}
-use Rattle.promises.proofs.Layouts.{between-holds}
+use Rattle.promises.proofs.ListLaws.{all-true, all-holds, zeros-replicate, take-filled, behind-filled}
+use Rattle.promises.proofs.Facts.{between-holds}
+
+-- a UID has at most 64 characters
+pub uid-short : (u : List ℕ) → isUid u ≡ true → length u ≤ 64
+unfolding isUid
+uid-short u e = leb-true (length u) 64 (both-true (leb (length u) 64) (components [] u) e .0)
 
 -- What check 6 tells of a UID that is sent; none is sent where it is empty.
 
@@ -44,32 +48,26 @@ sendable k c sent h =
     record { valid = λ x. not-false (isUid u) (a .0); foreign = λ x. a .1; free = λ x. not-false (isNobody (named k u)) b })
     (λ e. record { valid = λ x. absurd (x refl); foreign = λ x. absurd (x refl); free = λ x. absurd (x refl) })
 
+pub sent-short : (k : Core) (sent : List ℕ) → Sendable k sent → length sent ≤ 64
+sent-short k sent s = short (eqb (length sent) 0) refl
+  where
+    short : (none : Bool) → eqb (length sent) 0 ≡ none → length sent ≤ 64
+    short true e = let z = eqb-true (length sent) 0 e in omega arith
+    short false e = uid-short sent (s .valid (eqb-false (length sent) 0 e))
+
 -- Names keep their rules.
 
 made-name-sound : (m : Numbers) (s : ℕ) → 1 ≤ s → s < m .serial → nameSound m (madeName s) ≡ true
 unfolding nameSound
 made-name-sound m s h g =
     rw (ne-eqb s 0 (λ e. omega arith))
-    (holds-all _ (lt-ltb s (m .serial) g, (refl, (every-replicate (λ (b : ℕ). eqb b 0) 64 0 refl, tt))))
+    (all-holds _ (lt-ltb s (m .serial) g, (refl, (zeros-replicate 64, tt))))
 
 sent-name-sound : (m : Numbers) (sent : List ℕ) → (length sent ≡ 0 → ⊥) → isUid sent ≡ true → beginsWith (rootOf m) sent ≡ false → nameSound m (sentName sent) ≡ true
-unfolding nameSound isUid
+unfolding nameSound
 sent-name-sound m sent n u b =
-    let z : List ℕ = replicate (64 - length sent) 0 in
-    let short = leb-true (length sent) 64 (both-true (leb (length sent) 64) (components [] sent) u .0) in
-    holds-all _ (
-      between-holds 1 64 (length sent) (omega arith) short,
-      (
-        rw (take-append-seam sent z) u,
-        (
-          rw (take-append-seam sent z, b),
-          (
-            rw (drop-append-seam sent z) (every-replicate (λ (b : ℕ). eqb b 0) (64 - length sent) 0 refl),
-            tt,
-          ),
-        ),
-      ),
-    )
+    let front = take-filled 64 0 sent (length sent) refl in
+    all-holds _ (between-holds 1 64 (length sent) (omega arith) (uid-short sent u), (rw front u, (rw (front, b), (behind-filled 64 0 sent (λ (c : ℕ). eqb c 0) refl, tt))))
 
 pub name-from-sound : (k : Core) (sent : List ℕ) (m : Numbers) → Sendable k sent → rootOf m ≡ rootOf (k .numbers) → 1 ≤ k .numbers .serial → k .numbers .serial + ownSerials sent ≤ m .serial → nameSound m (nameFrom (k .numbers) sent) ≡ true
 name-from-sound k sent m s r h g =
@@ -97,11 +95,11 @@ own-below n name e = below (eqb (name .made .0) 0) refl e
   where
     below : (t : Bool) → eqb (name .made .0) 0 ≡ t → pick t (sentSound n name) (madeSound n name) ≡ true → name .made .0 + pick t 0 1 ≤ n .serial
     below true t e = let z = eqb-true (name .made .0) 0 t in omega arith
-    below false t e = let l = ltb-true (name .made .0) (n .serial) (all-holds _ e .0) in omega arith
+    below false t e = let l = ltb-true (name .made .0) (n .serial) (all-true _ e .0) in omega arith
 
 pub blank-below : (n : ℕ) (name : Name) → nameBlank name ≡ true → ownSerial name .from + ownSerial name .count ≤ n
 blank-below n name e =
-    let z = all-holds _ e .0 in
+    let z = all-true _ e .0 in
     let o = eqb-true (name .made .0) 0 z in
     rw (z, o) (omega arith)
 
@@ -131,4 +129,4 @@ text-free n name sent e f = free (eqb (name .made .0) 0) e f
   where
     free : (t : Bool) → pick t (sentSound n name) (madeSound n name) ≡ true → same sent (pick t (take (name .used) (name .text)) (made (rootOf n) (name .made .0))) ≡ false → sameText (sentText name) sent ≡ false
     free true e f = both-false (not (eqb (length (sentText name)) 0)) (same (sentText name) sent) (same-other sent (sentText name) f)
-    free false e f = rw (eqb-true (name .used) 0 (all-holds _ e .1 .0))
+    free false e f = rw (eqb-true (name .used) 0 (all-true _ e .1 .0))

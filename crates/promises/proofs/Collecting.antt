@@ -1,6 +1,6 @@
 -- The message half collected: it fits its buffers, and every call keeps that.
 -- Assumes nothing.
-use Prim.Native.Nat.{ℕ, zero, suc, _-_, _≤_}
+use Prim.Native.Nat.{ℕ, _≤_}
 use mathlib.Core.Path.{_≡_, refl, sym, ap, _∙_}
 use mathlib.Core.Bool.{Bool, true, false}
 use mathlib.Core.Option.{Option, none, some}
@@ -8,11 +8,10 @@ use mathlib.Core.List.{List, [], _∷_, _++_}
 use native.Mathlib.Omega.{arith}
 use borrow.Author.Tests.{leb-true, le-leb, eqb-true}
 use lib.Dec.{eqb, leb}
-use lib.ListN.{length, take, drop, replicate, length-take}
-use lib.Seq.{take-append-seam, drop-append-seam}
+use lib.ListN.{length, take, drop, length-take}
 use Rattle.choice.specs.Pick.{pick, both}
-use Rattle.choice.proofs.Picks.{Kept, first-cases, not-false, not-true, both-true, both-holds}
-use Rattle.strike.specs.Service.{DataSet, noData, whole, tooLong, Result, fails, does, Call, start, opening, feed, close, aside, Check, passes, refuses}
+use Rattle.choice.proofs.Picks.{Kept, not-false, not-true, both-true, both-holds}
+use Rattle.strike.specs.Service.{DataSet, noData, whole, tooLong, Result, fails, does, Call, start, opening, feed, close, aside, passes}
 use Rattle.strike.specs.Machine as machine
 use Rattle.strike.specs.Machine.{Fragment, command, dataset, fragmentIn, idle, inCommand, skippingCommand, inData, skippingData}
 use Rattle.strike.specs.Machine.{Outcome, ignores, waits, drops, asks, skips, reads, gathers, overflows, stores, collect, Records, answered, carriedOut, fed, checked, step}
@@ -24,14 +23,16 @@ use Rattle.rules.specs.declared.Input.{Input}
 use Rattle.rules.specs.declared.Command.{Command}
 use Rattle.rules.specs.declared.Command.the-variants.{Unreadable, Unknown, Known}
 use Rattle.rules.specs.Bounds.{commandLimit}
-use Rattle.rules.specs.Lists.{every, filledTo}
+use Rattle.rules.specs.Lists.{filledTo}
 use Rattle.rules.specs.Records.{isOpen}
 use Rattle.rules.specs.Commands.{hasData, understood}
 use Rattle.rules.specs.Responses.{Reply}
 use Rattle.rules.specs.Checks.{decide}
-use Rattle.rules.specs.Sound.{all, zeros, readable, inputSound}
-use Rattle.rules.specs.Calls.{Handed, feedRules, rulesOf, check, taken, readingOf, reading, printing}
+use Rattle.rules.specs.Sound.{zeros, readable, inputSound}
+use Rattle.rules.specs.Calls.{Handed, feedRules, rulesOf, taken, readingOf, reading, printing}
 use Rattle.rules.specs.Outcomes.{commandHeld, inputIn, inputHeld}
+use Rattle.promises.proofs.ListLaws.{all-true, all-holds, zeros-replicate, take-filled, behind-filled}
+use Rattle.promises.proofs.Steps.{step-cases, run-cases}
 
 abbrev pub Open : Opened → Type 0
 Open o = eqb (o .live) 0 ≡ false
@@ -147,33 +148,22 @@ passed-fits s (feed bytes a) h rows = fed-fits s (fragmentIn (s .core .opened .c
 passed-fits s (close a) h rows = tt
 passed-fits s (aside a) h rows = h
 
-refused-fits : (s : Records Core) (call : Call Handed) (n : ℕ) → RecordsFit s → RecordsFit (checked printing (refuses n) s call .records)
-unfolding checked
-refused-fits s call n h = h
-
 pub step-fits : (s : Records Core) (call : Call Handed) → RecordsFit s → RecordsFit (step printing s call .records)
-unfolding step check
-step-fits s call h =
-    first-cases (λ (x : Check). RecordsFit (checked printing x s call .records)) refuses (rulesOf (s .core) call) passes
-    (λ n. refused-fits s call n h) (passed-fits s call h)
+step-fits s call h = step-cases RecordsFit s call h (passed-fits s call h)
 
 pub run-fits : (s : Records Core) (cs : List (Call Handed)) → RecordsFit s → RecordsFit (after printing s cs)
-unfolding after
-run-fits s [] h = h
-run-fits s (c ∷ cs) h = run-fits (step printing s c .records) cs (step-fits s c h)
+run-fits = run-cases RecordsFit step-fits
 
 -- The rule of the records says the same of what they hold.
 
-zeros-none : (n : ℕ) → zeros (replicate n 0) ≡ true
-unfolding every
-zeros-none zero = refl
-zeros-none (suc n) = zeros-none n
-
 command-zeros : (c : List ℕ) → zeros (drop (length c) (filledTo commandLimit 0 c)) ≡ true
-command-zeros c = ap zeros (drop-append-seam c (replicate (commandLimit - length c) 0)) ∙ zeros-none (commandLimit - length c)
+command-zeros c = behind-filled commandLimit 0 c (λ (b : ℕ). eqb b 0) refl
+
+command-back : (c : List ℕ) → take (length c) (filledTo commandLimit 0 c) ≡ c
+command-back c = take-filled commandLimit 0 c (length c) refl
 
 command-held : (c : List ℕ) → readable (understood (take (length c) (filledTo commandLimit 0 c))) ≡ readable (understood c)
-command-held c = ap (λ (x : List ℕ). readable (understood x)) (take-append-seam c (replicate (commandLimit - length c) 0))
+command-held c = ap (λ (x : List ℕ). readable (understood x)) (command-back c)
 
 phase-open : (o : Opened) (n : ℕ) → n ≤ 4 → Open o → leb n (pick (eqb (o .live) 0) 0 4) ≡ true
 phase-open o n h live = rw live (le-leb n 4 h)
@@ -185,44 +175,32 @@ open-phase-if false n h e = refl
 open-phase : (o : Opened) (n : ℕ) → 1 ≤ n → leb n (pick (eqb (o .live) 0) 0 4) ≡ true → Open o
 open-phase o n h e = open-phase-if (eqb (o .live) 0) n h e
 
-four-hold : (a b c d : Bool) → a ≡ true → b ≡ true → c ≡ true → d ≡ true → all (a ∷ b ∷ c ∷ d ∷ []) ≡ true
-unfolding every
-four-hold a b c d e f g h = rw (e, f, g, h)
-
-four-held : (a b c d : Bool) → all (a ∷ b ∷ c ∷ d ∷ []) ≡ true → (a ≡ true) × ((b ≡ true) × (d ≡ true))
-unfolding every
-four-held a b c d e =
-    let p = both-true a (both b (both c (both d true))) e in
-    let q = both-true b (both c (both d true)) (p .1) in
-    let r = both-true c (both d true) (q .1) in
-    (p .0, (q .0, both-true d true (r .1) .0))
-
 pub fits-sound : (o : Opened) (i : machine.Input) → Fits o i → inputSound o (inputHeld i) ≡ true
-unfolding inputSound inputHeld every
-fits-sound o idle h = four-hold _ _ _ _ (le-leb 0 (pick (eqb (o .live) 0) 0 4) (omega arith)) refl (command-zeros []) refl
-fits-sound o (inCommand c) h = four-hold _ _ _ _ (phase-open o 1 (omega arith) (h .0)) (le-leb (length c) commandLimit (h .1)) (command-zeros c) refl
-fits-sound o skippingCommand h = four-hold _ _ _ _ (phase-open o 2 (omega arith) h) refl (command-zeros []) refl
+unfolding inputSound inputHeld
+fits-sound o idle h = all-holds _ (le-leb 0 (pick (eqb (o .live) 0) 0 4) (omega arith), (refl, (command-zeros [], (zeros-replicate 2, tt))))
+fits-sound o (inCommand c) h = all-holds _ (phase-open o 1 (omega arith) (h .0), (le-leb (length c) commandLimit (h .1), (command-zeros c, (refl, tt))))
+fits-sound o skippingCommand h = all-holds _ (phase-open o 2 (omega arith) h, (refl, (command-zeros [], (zeros-replicate 2, tt))))
 fits-sound o (inData c d) h =
-    four-hold _ _ _ _ (phase-open o 3 (omega arith) (h .0)) (le-leb (length c) commandLimit (h .1 .0 .short)) (command-zeros c)
-    (both-holds _ _ (command-held c ∙ h .1 .0 .read) (le-leb (length d) (o .room) (h .1 .1)))
+    all-holds _
+    (phase-open o 3 (omega arith) (h .0), (le-leb (length c) commandLimit (h .1 .0 .short), (command-zeros c, (both-holds _ _ (command-held c ∙ h .1 .0 .read) (le-leb (length d) (o .room) (h .1 .1)), tt))))
 fits-sound o (skippingData c) h =
-    four-hold _ _ _ _ (phase-open o 4 (omega arith) (h .0)) (le-leb (length c) commandLimit (h .1 .short)) (command-zeros c)
-    (both-holds _ _ (command-held c ∙ h .1 .read) refl)
+    all-holds _
+    (phase-open o 4 (omega arith) (h .0), (le-leb (length c) commandLimit (h .1 .short), (command-zeros c, (both-holds _ _ (command-held c ∙ h .1 .read) refl, tt))))
 
 pub sound-fits : (o : Opened) (i : machine.Input) → inputSound o (inputHeld i) ≡ true → Fits o i
 unfolding inputSound inputHeld
 sound-fits o idle e = tt
 sound-fits o (inCommand c) e =
-    let r = four-held _ _ _ _ e in
+    let r = all-true _ e in
     (open-phase o 1 (omega arith) (r .0), leb-true (length c) commandLimit (r .1 .0))
-sound-fits o skippingCommand e = open-phase o 2 (omega arith) (four-held _ _ _ _ e .0)
+sound-fits o skippingCommand e = open-phase o 2 (omega arith) (all-true _ e .0)
 sound-fits o (inData c d) e =
-    let r = four-held _ _ _ _ e in
-    let p = both-true _ _ (r .1 .1) in
+    let r = all-true _ e in
+    let p = both-true _ _ (r .1 .1 .1 .0) in
     (open-phase o 3 (omega arith) (r .0), (record { short = leb-true (length c) commandLimit (r .1 .0); read = sym (command-held c) ∙ p .0 }, leb-true (length d) (o .room) (p .1)))
 sound-fits o (skippingData c) e =
-    let r = four-held _ _ _ _ e in
-    (open-phase o 4 (omega arith) (r .0), record { short = leb-true (length c) commandLimit (r .1 .0); read = sym (command-held c) ∙ both-true _ _ (r .1 .1) .0 })
+    let r = all-true _ e in
+    (open-phase o 4 (omega arith) (r .0), record { short = leb-true (length c) commandLimit (r .1 .0); read = sym (command-held c) ∙ both-true _ _ (r .1 .1 .1 .0) .0 })
 
 -- Any input that keeps the rule, as it is read from the records and the message buffer.
 
@@ -255,15 +233,15 @@ module _ (o : Opened) (i : Input) (message : List ℕ) where
   pub in-fits : inputSound o i ≡ true → Fits o (inputIn i message)
   unfolding inputSound inputIn
   in-fits e =
-      let r = four-held _ _ _ _ e in
-      in-fits-if (eqb (i .phase) 1) (eqb (i .phase) 2) (eqb (i .phase) 3) (eqb (i .phase) 4) refl refl refl refl (r .0) (r .1 .0) (r .1 .1)
+      let r = all-true _ e in
+      in-fits-if (eqb (i .phase) 1) (eqb (i .phase) 2) (eqb (i .phase) 3) (eqb (i .phase) 4) refl refl refl refl (r .0) (r .1 .0) (r .1 .1 .1 .0)
 
 -- what is held is read back, where the data lies in the message buffer
 pub held-in : (i : machine.Input) (message : List ℕ) → Lies i message → inputIn (inputHeld i) message ≡ i
 unfolding inputIn inputHeld
 held-in idle message h = refl
-held-in (inCommand c) message h = ap inCommand (take-append-seam c (replicate (commandLimit - length c) 0))
+held-in (inCommand c) message h = ap inCommand (command-back c)
 held-in skippingCommand message h = refl
 held-in (inData c d) message h =
-    ap (λ (x : List ℕ). inData x (take (length d) message)) (take-append-seam c (replicate (commandLimit - length c) 0)) ∙ ap (inData c) h
-held-in (skippingData c) message h = ap skippingData (take-append-seam c (replicate (commandLimit - length c) 0))
+    ap (λ (x : List ℕ). inData x (take (length d) message)) (command-back c) ∙ ap (inData c) h
+held-in (skippingData c) message h = ap skippingData (command-back c)
