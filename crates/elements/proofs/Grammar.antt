@@ -14,7 +14,7 @@ use Rattle.headers.specs.Header.{headAt, itemHeadAt, closeAt}
 use Rattle.headers.proofs.Within.{CloseIn, HeadIn, close-in, head-in, item-head-in}
 use Rattle.elements.specs.declared.Read.{Read}
 use Rattle.elements.specs.declared.Read.the-variants.{Past, Refused}
-use Rattle.elements.specs.Walk.{Next, again, done, follow, onward, walk, onTrail, trail}
+use Rattle.elements.specs.Walk.{follow, onward, onTrail, trail}
 use Rattle.elements.specs.Reader.{itemEnd, sequenceEnd, Elem, behind, orElse, Mark, start, listStep, listFrom, itemWith, itemStep, itemsFrom, elementAt}
 use Rattle.elements.proofs.Within.{ReadIn, NextIn, AllIn}
 use Rattle.elements.proofs.Steps.{walk-in, unroll, trail-unroll, trail-in}

@@ -24,7 +24,6 @@ use Rattle.elements.specs.Walk.{Next, again, done, follow, onward, onTra
 use Rattle.elements.specs.Reader.{itemEnd, sequenceEnd, orElse, Mark, start, listStep, listFrom, itemWith, itemStep, itemsFrom, elementAt, listAt, itemAt}
 use Rattle.elements.specs.Find.{elementsFrom, itemsOf, found, among, findAt, only, counted, itemsAt}
 use Rattle.elements.proofs.Within.{ReadIn, AllIn, FoundIn, ItemsIn}
-use Rattle.elements.proofs.Steps.{lower-all}
 use Rattle.elements.proofs.Grammar.{place, ElemIn, element-in, item-in, list-unroll, items-unroll, elements-unroll, items-of-unroll, elements-in, items-of-in}
 
 -- One header.

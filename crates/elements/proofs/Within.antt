@@ -1,6 +1,6 @@
 -- What is read lies between the place where it begins and the enclosing end.
 -- Assumes nothing.
-use Prim.Native.Nat.{ℕ, _+_, _≤_, _<_}
+use Prim.Native.Nat.{ℕ, _≤_, _<_}
 use mathlib.Core.List.{List, [], _∷_}
 use Rattle.headers.proofs.Within.{Fits}
 use Rattle.elements.specs.declared.Read.{Read}

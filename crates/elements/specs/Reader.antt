@@ -11,7 +11,7 @@ use Rattle.headers.specs.declared.Close.the-variants.{Here, Not}
 use Rattle.headers.specs.Header.{tagAt, headAt, itemHeadAt, closeAt}
 use Rattle.elements.specs.declared.Read.{Read}
 use Rattle.elements.specs.declared.Read.the-variants.{Past, Refused}
-use Rattle.elements.specs.Walk.{Next, again, done, onward, walk}
+use Rattle.elements.specs.Walk.{Next, done, onward, walk}
 
 -- the delimiters that close the list of an item and a sequence
 abbrev pub itemEnd : ℕ

@@ -1,13 +1,13 @@
 -- What a header holds, and where a list closes, lies between its place and the enclosing end.
 -- Assumes nothing.
-use mathlib.Core.Path.{_≡_, refl, ap}
-use Prim.Native.Nat.{ℕ, _+_, _-_, _≤_, _<_}
-use mathlib.Core.Bool.{Bool, true, false}
+use mathlib.Core.Path.{ap}
+use Prim.Native.Nat.{ℕ, _+_, _-_, _≤_}
+use mathlib.Core.Bool.{Bool}
 use mathlib.Core.List.{List}
 use native.Mathlib.Omega.{arith}
 use lib.Dec.{ltb, eqb}
 use borrow.Author.Tests.{ltb-false}
-use Rattle.choice.specs.Pick.{pick, not}
+use Rattle.choice.specs.Pick.{not}
 use Rattle.choice.proofs.Picks.{pick-cases, first-cases, both-second, both-first}
 use Rattle.octets.specs.Octets.{numberAt}
 use Rattle.headers.specs.declared.Inside.{Inside}

@@ -1,13 +1,13 @@
 -- Bytes laid over a list: they stand there, everything else stays, and two runs laid one after the other are one.
 -- Assumes nothing.
-use Prim.Native.Nat.{ℕ, zero, suc, _+_, _-_, _<_, _≤_}
-use mathlib.Core.Path.{_≡_, refl, sym, ap, _∙_}
+use Prim.Native.Nat.{ℕ, suc, _+_, _-_, _<_, _≤_}
+use mathlib.Core.Path.{_≡_, sym, ap, _∙_}
 use mathlib.Core.List.{List, [], _∷_, _++_, append-assoc}
 use native.Mathlib.Nat.{add-assoc}
 use native.Mathlib.Numerals.{add-one}
 use native.Mathlib.Omega.{arith}
-use lib.ListN.{length, getD, set, take, drop, length-append, length-take, length-drop, take-append-drop, List·getD-append}
-use lib.Seq.{take-at, drop-at, drop-drop, length-take-le, take-append-seam, take-append-le, drop-append-le, drop-append-seam, take-take, getD-append-add, getD-take, getD-drop, drop-cons, take-suc-set, drop-set-lt, take-add}
+use lib.ListN.{length, getD, set, take, drop, length-append, length-take, length-drop, take-append-drop}
+use lib.Seq.{take-at, drop-at, drop-drop, length-take-le, take-append-seam, drop-append-seam, take-take, getD-take, getD-drop, take-suc-set, drop-set-lt, take-add}
 use Rattle.octets.specs.Octets.{part, laid}
 
 -- the bytes stand in the list at a place

@@ -1,12 +1,12 @@
 -- Numbers in bytes, once over the width: a number of w bytes is below 256 ^ w, what was written is read back, and what was
 -- read is written back. Assumes nothing.
 use Prim.Native.Nat.{ℕ, zero, suc, _+_, _*_, _-_, _<_, _≤_, _/_, _%_, _^_}
-use mathlib.Core.Path.{_≡_, refl, sym, ap, _∙_}
-use mathlib.Core.List.{List, [], _∷_, _++_}
+use mathlib.Core.Path.{_≡_, refl, ap}
+use mathlib.Core.List.{List}
 use native.Mathlib.Nat.{pow-suc, div-lt-iff-lt-mul}
 use native.Mathlib.Numerals.{add-one}
 use native.Mathlib.Omega.{arith}
-use lib.ListN.{length, getD, take, drop}
+use lib.ListN.{length, getD}
 use lib.Seq.{drop-cons}
 use Rattle.octets.specs.Octets.{numberAt, bigNumberAt, octets, part, Bytes}
 use Rattle.octets.proofs.Laid.{Stands, stands-byte, stands-rest}

@@ -1,9 +1,8 @@
 -- Examples: P1 to P12 as a single list under one claim, computed.
 -- Assumes nothing.
-use mathlib.Core.Path.{_≡_, refl}
+use mathlib.Core.Path.{refl}
 use mathlib.Core.Bool.{true, false}
 use mathlib.Core.List.{List, [], _∷_}
-use Prim.Native.Nat.{ℕ}
 use Rattle.strike.specs.Service.{noData, whole, Result}
 use Rattle.rules.specs.declared.Core.{Core}
 use Rattle.rules.specs.Records.{newSession}

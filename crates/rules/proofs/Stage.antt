@@ -8,7 +8,7 @@ use Rattle.rules.specs.declared.Core.{Core}
 use Rattle.rules.specs.declared.Film.{Film}
 use Rattle.rules.specs.Text.{chars}
 use Rattle.rules.specs.Lists.{filledTo}
-use Rattle.rules.specs.Records.{serial, madeName, sentName, shelved, queued, noSession, newSession, noBox, noFilm}
+use Rattle.rules.specs.Records.{serial, madeName, sentName, shelved, queued, noSession, newSession, noBox}
 use Rattle.rules.specs.Attributes.{layoutFrom}
 use Rattle.rules.specs.Responses.{Reply}
 use Rattle.rules.specs.Effects.{newBox, renamed}

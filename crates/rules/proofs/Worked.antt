@@ -1,11 +1,11 @@
 -- Worked requests: every check from 1 to 11, and the effects, computed. They catch the must-fail edits of the definitions.
 -- Assumes nothing.
-use mathlib.Core.Path.{_≡_, refl}
+use mathlib.Core.Path.{refl}
 use mathlib.Core.Bool.{false}
 use mathlib.Core.List.{List, [], _∷_, _++_}
 use Prim.Native.Nat.{ℕ}
 use lib.ListN.{getD, replicate}
-use Rattle.strike.specs.Service.{DataSet, noData, whole, tooLong, Result, fails, does}
+use Rattle.strike.specs.Service.{noData, whole, tooLong, Result, fails, does}
 use Rattle.rules.specs.declared.Core.{Core}
 use Rattle.rules.specs.declared.ImageBox.{ImageBox}
 use Rattle.rules.specs.declared.Film.{Film}

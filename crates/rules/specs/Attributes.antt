@@ -1,11 +1,11 @@
 -- The records: what a data set says for a session, a film and a box.
-use Prim.Native.Nat.{ℕ, suc, _+_, _*_, _-_}
+use Prim.Native.Nat.{ℕ, _*_, _-_}
 use mathlib.Core.Bool.{Bool, true, false}
 use mathlib.Core.List.{List, [], _∷_, _++_}
 use lib.Dec.{eqb, leb, ltb}
-use lib.ListN.{length, set, getD, take, drop, replicate}
+use lib.ListN.{length}
 use Rattle.choice.specs.Pick.{pick, both, either, not}
-use Rattle.choice.specs.Rules.{Rule, _⇒_, firstOr}
+use Rattle.choice.specs.Rules.{Rule, _⇒_}
 use Rattle.octets.specs.Octets.{same}
 use Rattle.uids.specs.Uids.{isUid, unpadded}
 use Rattle.headers.specs.declared.Part.{Part}
@@ -16,17 +16,16 @@ use Rattle.elements.specs.declared.Items.{Items}
 use Rattle.elements.specs.declared.Items.the-variants.{Empty, One, Several}
 use Rattle.elements.specs.Reader.{whole}
 use Rattle.elements.specs.Find.{findAt, itemsAt}
-use Rattle.rules.specs.declared.Name.{Name}
 use Rattle.rules.specs.declared.Session.{Session}
 use Rattle.rules.specs.declared.ImageBox.{ImageBox}
 use Rattle.rules.specs.declared.Layout.{Layout}
 use Rattle.rules.specs.declared.Film.{Film}
 use Rattle.rules.specs.declared.Core.{Core}
 use Rattle.rules.specs.Text.{sessionClass}
-use Rattle.rules.specs.Lists.{every, any, filledTo}
+use Rattle.rules.specs.Lists.{any, filledTo}
 use Rattle.rules.specs.Values.{trimmed, noBytes, blank, countIn, codeIn, priorities, media, destinations, orientations, magnifications, polarities, photometrics, labelAllowed, countsIn, isUS, usIn}
-use Rattle.rules.specs.Records.{serial, picture, uidOf, isLive, boxCount}
-use Rattle.rules.specs.Commands.{noPart, placed, size, bytesOf}
+use Rattle.rules.specs.Records.{picture, uidOf, isLive}
+use Rattle.rules.specs.Commands.{noPart, placed, bytesOf}
 
 -- A list of attributes: the bytes that it lies in, the syntax, and what it holds. A data set has room for four sequences.
 pub record Listing : Type 0 where

@@ -1,14 +1,14 @@
 -- A call refused, and what the calls do: the service that collecting is over.
-use Prim.Native.Nat.{ℕ, _+_, _-_, _%_}
-use mathlib.Core.Bool.{Bool, true, false}
-use mathlib.Core.List.{List, [], _∷_, _++_, map}
+use Prim.Native.Nat.{ℕ, _%_}
+use mathlib.Core.Bool.{Bool}
+use mathlib.Core.List.{List, [], _∷_, _++_}
 use lib.Dec.{eqb, leb, ltb}
 use lib.ListN.{length, getD, drop}
 use Rattle.choice.specs.Pick.{pick, both, either, not}
 use Rattle.choice.specs.Rules.{Rule, _⇒_, firstOr}
 use Rattle.octets.specs.Octets.{octets}
 use Rattle.uids.specs.Uids.{isUid}
-use Rattle.strike.specs.Service.{Reading, unreadable, alone, withData, DataSet, Call, start, opening, feed, close, aside, Check, passes, refuses, Service}
+use Rattle.strike.specs.Service.{Reading, unreadable, alone, withData, Call, start, opening, feed, close, aside, Check, passes, refuses, Service}
 use Rattle.rules.specs.declared.Picture.{Picture}
 use Rattle.rules.specs.declared.Entry.{Entry}
 use Rattle.rules.specs.declared.Numbers.{Numbers}

@@ -1,10 +1,10 @@
 -- Requests: status checks 1 to 11, first that applies, and what is done where none of 1 to 10 does.
-use Prim.Native.Nat.{ℕ, _+_, _-_}
+use Prim.Native.Nat.{ℕ}
 use mathlib.Core.Bool.{Bool, true, false}
 use mathlib.Core.List.{List, [], _∷_, _++_}
 use mathlib.Core.Option.{Option, none, some}
-use lib.Dec.{eqb, leb, ltb}
-use lib.ListN.{length, getD}
+use lib.Dec.{eqb, ltb}
+use lib.ListN.{length}
 use Rattle.choice.specs.Pick.{pick, both, either, not}
 use Rattle.choice.specs.Rules.{Rule, _⇒_, firstOr}
 use Rattle.octets.specs.Octets.{same}
@@ -26,7 +26,7 @@ use Rattle.rules.specs.Text.{verificationClass, sessionClass, filmClass,
 use Rattle.rules.specs.Lists.{any, apart}
 use Rattle.rules.specs.Records.{boxCount, boxesOf, filmsOf, rootOf, uidOf, isLive, explicitVR, Instance, nobody, theSession, theFilm, theBox, named, boxUids}
 use Rattle.rules.specs.Commands.{size, uidAt, isRead, understood}
-use Rattle.rules.specs.Attributes.{Listing, listingOf, Standing, attributeRules, sessionStandings, filmCreateStandings, filmSetStandings, boxStandings, Image, imageIn, isFill, pixels}
+use Rattle.rules.specs.Attributes.{Listing, listingOf, attributeRules, sessionStandings, filmCreateStandings, filmSetStandings, boxStandings, Image, imageIn, isFill, pixels}
 use Rattle.rules.specs.Responses.{Says, Note, noNote, filmsQueued, pictureAt, Reply, reply, filmTree}
 use Rattle.rules.specs.Effects.{ownSerials, nameFrom, tooFewSerials, noPictureLeft, sessionCreated, newFilm, filmSerials, filmCreated, sessionSet, filmAt, filmSet, boxSet, sessionDeleted, filmDeleted, printed, filledBoxes, noneFilled, queueRoom}
 

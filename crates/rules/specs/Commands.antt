@@ -1,8 +1,8 @@
 -- Requests: readable commands, and the request that one is.
-use Prim.Native.Nat.{ℕ, _+_, _-_, _<_}
+use Prim.Native.Nat.{ℕ, _-_}
 use mathlib.Core.Bool.{Bool, true, false}
-use mathlib.Core.List.{List, [], _∷_}
-use lib.Dec.{eqb, leb, ltb}
+use mathlib.Core.List.{List}
+use lib.Dec.{eqb, ltb}
 use lib.ListN.{length}
 use Rattle.choice.specs.Pick.{pick, both, not}
 use Rattle.octets.specs.Octets.{numberAt, part}
@@ -13,7 +13,7 @@ use Rattle.elements.specs.declared.Read.{Read}
 use Rattle.elements.specs.declared.Read.the-variants.{Past, Refused}
 use Rattle.elements.specs.declared.Found.{Found}
 use Rattle.elements.specs.declared.Found.the-variants.{Missing, Value, Sequence}
-use Rattle.elements.specs.Reader.{Mark, start, whole, dataSet}
+use Rattle.elements.specs.Reader.{start, whole, dataSet}
 use Rattle.elements.specs.Find.{elementsFrom, findAt}
 use Rattle.rules.specs.declared.Operation.{Operation}
 use Rattle.rules.specs.declared.Operation.the-variants.{Echo, Create, Set, Act, Delete}

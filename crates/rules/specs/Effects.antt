@@ -8,7 +8,6 @@ use Rattle.choice.specs.Pick.{pick, both, not}
 use Rattle.rules.specs.declared.Name.{Name}
 use Rattle.rules.specs.declared.Session.{Session}
 use Rattle.rules.specs.declared.ImageBox.{ImageBox}
-use Rattle.rules.specs.declared.Layout.{Layout}
 use Rattle.rules.specs.declared.Film.{Film}
 use Rattle.rules.specs.declared.Picture.{Picture}
 use Rattle.rules.specs.declared.Entry.{Entry}
@@ -16,7 +15,7 @@ use Rattle.rules.specs.declared.Numbers.{Numbers}
 use Rattle.rules.specs.declared.Core.{Core}
 use Rattle.rules.specs.Bounds.{mostBoxes, mostEntries, noneLeft, tickets}
 use Rattle.rules.specs.Lists.{any, from, filledTo, without}
-use Rattle.rules.specs.Records.{serial, picture, madeName, sentName, boxCount, boxesOf, filled, noBox, noFilm, filmsOf, entriesOf, noSession, newSession, notOpen, withNumbers, withSession, withFilms, withQueue, serialsUsed, pictureUsed}
+use Rattle.rules.specs.Records.{serial, picture, madeName, sentName, boxCount, boxesOf, filled, noBox, noFilm, filmsOf, entriesOf, noSession, newSession, withNumbers, withSession, withFilms, withQueue, serialsUsed, pictureUsed}
 use Rattle.rules.specs.Attributes.{Listing, Image, imageIn, isFill, sessionWith, filmWith, layoutIn, boxWith}
 
 -- Numbers.

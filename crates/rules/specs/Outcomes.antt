@@ -1,13 +1,12 @@
 -- A call refused: each call over its buffers. One record has the number returned and every lent buffer afterwards.
-use Prim.Native.Nat.{ℕ, _+_}
-use mathlib.Core.Bool.{Bool}
+use Prim.Native.Nat.{ℕ}
 use mathlib.Core.List.{List, [], _∷_, _++_}
 use lib.Dec.{eqb, leb, ltb}
 use lib.ListN.{length, take, replicate}
 use Rattle.choice.specs.Pick.{pick, both, not}
 use Rattle.choice.specs.Rules.{Rule, _⇒_, firstOr}
 use Rattle.octets.specs.Octets.{octets, laid}
-use Rattle.strike.specs.Service.{Call, start, opening, feed, close, aside}
+use Rattle.strike.specs.Service.{start, opening, feed, close, aside}
 use Rattle.strike.specs.Machine as machine
 use Rattle.strike.specs.Machine.{idle, inCommand, skippingCommand, inData, skippingData, Answer, refused, done, told, ignored, wait, dropped, failure, success, Records, Step, step, messageAfter}
 use Rattle.rules.specs.declared.Core.{Core}

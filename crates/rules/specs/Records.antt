@@ -1,9 +1,9 @@
 -- The records: what they hold, by lists and names.
-use Prim.Native.Nat.{ℕ, suc, _+_, _-_}
+use Prim.Native.Nat.{ℕ, _+_}
 use mathlib.Core.Bool.{Bool}
-use mathlib.Core.List.{List, [], _∷_, _++_, map}
-use lib.Dec.{eqb, ltb}
-use lib.ListN.{length, getD, set, take, replicate}
+use mathlib.Core.List.{List, map}
+use lib.Dec.{eqb}
+use lib.ListN.{length, getD, take, replicate}
 use Rattle.choice.specs.Pick.{pick, both, not}
 use Rattle.octets.specs.Octets.{same}
 use Rattle.uids.specs.Uids.{made}
@@ -20,7 +20,7 @@ use Rattle.rules.specs.declared.Queue.{Queue}
 use Rattle.rules.specs.declared.Numbers.{Numbers}
 use Rattle.rules.specs.declared.Opened.{Opened}
 use Rattle.rules.specs.declared.Core.{Core}
-use Rattle.rules.specs.Bounds.{mostFilms, mostBoxes, mostEntries, rootLimit}
+use Rattle.rules.specs.Bounds.{mostFilms, mostBoxes, mostEntries}
 use Rattle.rules.specs.Lists.{any, placeOf, sum, from, filledTo}
 
 -- Names.

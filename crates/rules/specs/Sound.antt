@@ -1,10 +1,10 @@
 -- The records: their rules, as one test. Unused places hold zeros, so that equal records have equal bytes.
-use Prim.Native.Nat.{ℕ, _+_, _-_, _%_}
+use Prim.Native.Nat.{ℕ, _+_, _%_}
 use mathlib.Core.Bool.{Bool, true, false}
-use mathlib.Core.List.{List, [], _∷_, _++_, map}
+use mathlib.Core.List.{List, [], _∷_, map}
 use lib.Dec.{eqb, leb, ltb}
 use lib.ListN.{length, getD, take, drop}
-use Rattle.choice.specs.Pick.{pick, both, either, not}
+use Rattle.choice.specs.Pick.{pick, both, not}
 use Rattle.octets.specs.Octets.{same}
 use Rattle.uids.specs.Uids.{isUid, beginsWith}
 use Rattle.rules.specs.declared.Picture.{Picture}
