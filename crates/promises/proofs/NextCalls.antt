@@ -31,11 +31,11 @@ use Rattle.promises.proofs.Packed.{state-laws}
 use Rattle.promises.proofs.Sized.{Each, Sized}
 use Rattle.promises.proofs.SizedAfter.{started-sized}
 use Rattle.promises.proofs.Collecting.{fits-sound}
-use Rattle.promises.proofs.Kept.{stateOf, call-sound}
+use Rattle.promises.proofs.Kept.{stateOf, sound-parts, call-sound}
 use Rattle.promises.proofs.SizedSteps.{step-sized}
 use Rattle.promises.proofs.Good.{Byte, good-core, written-back}
 use Rattle.promises.proofs.Unpacked.{unpacked-good, unpacked-sized, CallBytes}
-use Rattle.promises.proofs.Next.{sound-parts, afterCall, next-sound}
+use Rattle.promises.proofs.Next.{afterCall, next-sound}
 
 -- The calls over their buffers.
 
