@@ -39,11 +39,11 @@ use Rattle.rules.specs.Layout.{serialFormat, pictureFormat, nameFormat, session
 use Rattle.rules.specs.Outcomes.{held, inputHeld, written}
 use Rattle.rules.proofs.Sizes.{records-size}
 use Rattle.promises.proofs.Packed.{state-laws, unpack-pack, core-unpacked}
-use Rattle.promises.proofs.ListLaws.{all-true}
+use Rattle.promises.proofs.ListLaws.{all-true, Each, each-at, each-append, each-take, each-drop, each-join, each-filled, each-told, each-so, filled-length}
 use Rattle.promises.proofs.Facts.{between-true, core-facts, numbers-facts, shelf-facts, queue-facts, LabelFacts, session-facts, box-facts, film-facts}
 use Rattle.promises.proofs.Layouts.{boxes-most}
 use Rattle.promises.proofs.Kept.{stateOf}
-use Rattle.promises.proofs.Sized.{Each, each-at, each-append, each-take, each-drop, each-join, each-filled, each-told, each-so, filled-length, NameSized, SessionSized, FilmSized, ShelfSized, EntrySized, QueueSized, NumbersSized, Sized}
+use Rattle.promises.proofs.Sized.{NameSized, SessionSized, FilmSized, ShelfSized, EntrySized, QueueSized, NumbersSized, Sized}
 
 -- Arrays.
 

@@ -30,9 +30,10 @@ use Rattle.rules.specs.Responses.{Reply}
 use Rattle.rules.specs.Checks.{decide}
 use Rattle.rules.specs.Calls.{Handed, printing, reading}
 use Rattle.rules.specs.Outcomes.{commandHeld}
+use Rattle.promises.proofs.ListLaws.{Each, each-all, each-append, each-take, each-drop}
 use Rattle.promises.proofs.Steps.{step-cases}
 use Rattle.promises.proofs.Packed.{state-laws}
-use Rattle.promises.proofs.Sized.{Each, each-all, each-append, each-take, each-drop, NameSized, SessionSized, FilmSized, ShelfSized, EntrySized, QueueSized, NumbersSized, Sized}
+use Rattle.promises.proofs.Sized.{NameSized, SessionSized, FilmSized, ShelfSized, EntrySized, QueueSized, NumbersSized, Sized}
 use Rattle.promises.proofs.Good.{Byte, CommandFits, InputFits}
 
 -- Records that fit their fields have arrays of their lengths.
