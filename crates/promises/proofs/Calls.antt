@@ -1,4 +1,4 @@
--- Calls that are not refused keep the rules of the records: start, open, close and take.
+-- Calls that are not refused keep the rules of the records: start, open, close and take. So does a session deleted, since close deletes it.
 -- Assumes nothing.
 use Prim.Native.Nat.{ℕ, _%_, _≤_, _<_}
 use mathlib.Core.Path.{_≡_, refl, ap, _∙_}
@@ -15,12 +15,13 @@ use Rattle.uids.specs.Uids.{isUid, components, component}
 use Rattle.rules.specs.Bounds.{leastRoom, mostRoom, mostEntries, rootLimit, noneLeft}
 use Rattle.rules.specs.declared.Entry.{Entry}
 use Rattle.rules.specs.declared.Numbers.{Numbers}
+use Rattle.rules.specs.declared.Opened.{Opened}
 use Rattle.rules.specs.declared.Core.{Core}
 use Rattle.rules.specs.Lists.{every, apart, filledTo}
 use Rattle.rules.specs.Records.{rootOf, filmsOf, entriesOf, shelved, noSession, notOpen}
 use Rattle.rules.specs.Effects.{sessionDeleted}
 use Rattle.rules.specs.Sound.{between, numbersSound, serialsOf, uidsApart, sessionBlank, entrySound, filmSound, openedSound, coreSound}
-use Rattle.rules.specs.Calls.{Handed, badRoot, badNumber, badContext, badSyntax, messageWrong, startRules, openRules, started, opened, closed, taken}
+use Rattle.rules.specs.Calls.{Handed, badRoot, badNumber, badContext, badSyntax, messageWrong, startRules, openRules, withOpened, started, opened, closed, taken}
 use Rattle.promises.proofs.ListLaws.{all-holds, take-filled, behind-filled, every-nil, every-drop, films-shelved}
 use Rattle.promises.proofs.Facts.{between-holds, core-facts, core-sound, numbers-sound, queue-facts, entries-few, shelved-sound, queued-sound}
 
@@ -41,21 +42,7 @@ not-open : openedSound notOpen ≡ true
 unfolding openedSound every
 not-open = refl
 
--- Close, and a session deleted.
-
-pub closed-sound : (k : Core) → coreSound k ≡ true → coreSound (closed k) ≡ true
-unfolding closed
-closed-sound k e =
-    let f = core-facts k e in
-    core-sound (closed k) record {
-      numbers = f .numbers;
-      live = refl;
-      session = blank-session;
-      shelf = shelved-sound (k .numbers) noSession [] (omega arith) (every-nil (filmSound (k .numbers)));
-      queue = f .queue;
-      uids = shelf-apart;
-      opened = not-open;
-    }
+-- A session deleted, and close.
 
 pub session-deleted-sound : (k : Core) → coreSound k ≡ true → coreSound (sessionDeleted k) ≡ true
 unfolding sessionDeleted
@@ -70,6 +57,15 @@ session-deleted-sound k e =
       uids = shelf-apart;
       opened = f .opened;
     }
+
+with-opened : (k : Core) (o : Opened) → coreSound k ≡ true → openedSound o ≡ true → coreSound (withOpened o k) ≡ true
+with-opened k o e h =
+    let f = core-facts k e in
+    core-sound (withOpened o k) record { numbers = f .numbers; live = f .live; session = f .session; shelf = f .shelf; queue = f .queue; uids = f .uids; opened = h }
+
+pub closed-sound : (k : Core) → coreSound k ≡ true → coreSound (closed k) ≡ true
+unfolding closed sessionDeleted
+closed-sound k e = with-opened (sessionDeleted k) notOpen (session-deleted-sound k e) not-open
 
 -- Take.
 
@@ -163,16 +159,6 @@ good-room k room e =
 pub opened-sound : (k : Core) (h : Handed) → coreSound k ≡ true → Kept (openRules k h) → coreSound (opened k h) ≡ true
 unfolding opened openedSound
 opened-sound k h e r =
-    let f = core-facts k e in
     let t = either-false (badContext (h .context)) (badSyntax (h .syntax)) (r .1 .0) in
     let context = good-context (h .context) (t .0) in
-    let tests : List Bool = eqb (h .context % 2) 1 ∷ leb (h .context) 255 ∷ between 1 2 (h .syntax) ∷ between leastRoom mostRoom (h .message) ∷ [] in
-    core-sound (opened k h) record {
-      numbers = f .numbers;
-      live = f .live;
-      session = f .session;
-      shelf = f .shelf;
-      queue = f .queue;
-      uids = f .uids;
-      opened = all-holds tests (context .0, (context .1, (two-syntaxes (h .syntax) (eqb (h .syntax) 1) (eqb (h .syntax) 2) refl refl (t .1), (good-room k (h .message) (r .0), tt))));
-    }
+    with-opened k _ e (all-holds _ (context .0, (context .1, (two-syntaxes (h .syntax) (eqb (h .syntax) 1) (eqb (h .syntax) 2) refl refl (t .1), (good-room k (h .message) (r .0), tt)))))

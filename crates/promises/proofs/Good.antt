@@ -1,6 +1,6 @@
 -- Records that keep their rules, with arrays of their lengths, fit their fields: packed and unpacked, they are the same.
 -- Assumes nothing.
-use Prim.Native.Nat.{ℕ, zero, suc, _+_, _%_, _<_, _≤_}
+use Prim.Native.Nat.{ℕ, zero, suc, _+_, _<_, _≤_}
 use mathlib.Core.Path.{_≡_, refl, subst}
 use mathlib.Core.Bool.{Bool, true, false}
 use mathlib.Core.List.{List, [], _∷_, _++_, append-assoc}
@@ -12,7 +12,7 @@ use Rattle.choice.specs.Pick.{pick, both, either, not}
 use Rattle.choice.proofs.Picks.{both-true}
 use Rattle.octets.specs.Octets.{Bytes}
 use Rattle.octets.proofs.Same.{same-equal}
-use Rattle.uids.specs.Uids.{digits, component, components, isUid, beginsWith}
+use Rattle.uids.specs.Uids.{digits, component, components, isUid}
 use Rattle.fields.specs.Format.{Format, byte, array, write}
 use Rattle.fields.proofs.Laws.{read-write}
 use Rattle.strike.specs.Machine as machine
@@ -34,16 +34,16 @@ use Rattle.rules.specs.declared.Input.{Input}
 use Rattle.rules.specs.Lists.{every, sum, filledTo}
 use Rattle.rules.specs.Values.{trimmed, labelByte, labelAllowed}
 use Rattle.rules.specs.Records.{rootOf, boxCount, boxesOf, filmsOf, entriesOf, isLive}
-use Rattle.rules.specs.Sound.{between, zeros, flag, nameSound, sentSound, madeSound, nameBlank, numbersSound, sessionSound, sessionBlank, layoutSound, boxSound, boxBlank, filmSound, filmBlank, shelfSound, entrySound, entryBlank, queueSound, openSound, openedSound, coreSound}
+use Rattle.rules.specs.Sound.{zeros, flag, nameSound, sentSound, madeSound, nameBlank, numbersSound, sessionSound, sessionBlank, layoutSound, boxSound, boxBlank, filmSound, filmBlank, shelfSound, entrySound, entryBlank, queueSound, openSound, openedSound, coreSound}
 use Rattle.rules.specs.Layout.{serialFormat, pictureFormat, nameFormat, sessionFormat, boxFormat, layoutFormat, filmFormat, shelfFormat, entryFormat, queueFormat, numbersFormat, openedFormat, coreFormat, inputFormat, stateFormat, recordsSize, unpack, pack}
 use Rattle.rules.specs.Outcomes.{held, inputHeld, written}
 use Rattle.rules.proofs.Sizes.{records-size}
 use Rattle.promises.proofs.Packed.{state-laws, unpack-pack, core-unpacked}
-use Rattle.promises.proofs.ListLaws.{all-true}
+use Rattle.promises.proofs.ListLaws.{all-true, Each, each-at, each-append, each-take, each-drop, each-join, each-filled, each-told, each-so, filled-length}
 use Rattle.promises.proofs.Facts.{between-true, core-facts, numbers-facts, shelf-facts, queue-facts, LabelFacts, session-facts, box-facts, film-facts}
 use Rattle.promises.proofs.Layouts.{boxes-most}
 use Rattle.promises.proofs.Kept.{stateOf}
-use Rattle.promises.proofs.Sized.{Each, each-at, each-append, each-take, each-drop, each-join, each-filled, each-told, each-so, filled-length, NameSized, SessionSized, FilmSized, ShelfSized, EntrySized, QueueSized, NumbersSized, Sized}
+use Rattle.promises.proofs.Sized.{NameSized, SessionSized, FilmSized, ShelfSized, EntrySized, QueueSized, NumbersSized, Sized}
 
 -- Arrays.
 
@@ -109,14 +109,6 @@ good-numbers n e s =
 
 -- Names.
 
-abbrev sentTests : Numbers → Name → List Bool
-sentTests n name =
-    between 1 64 (name .used)
-    ∷ isUid (take (name .used) (name .text))
-    ∷ not (beginsWith (rootOf n) (take (name .used) (name .text)))
-    ∷ zeros (drop (name .used) (name .text))
-    ∷ []
-
 name-fits : (name : Name) → name .made .0 < 4294967296 → name .used < 256 → Each Byte (name .text) → NameSized name → nameFormat .Good name
 unfolding nameFormat serialFormat
 name-fits name h k b s = (h, (k, good-array byte 64 (name .text) s b))
@@ -124,7 +116,7 @@ name-fits name h k b s = (h, (k, good-array byte 64 (name .text) s b))
 sent-fits : (n : Numbers) (name : Name) → eqb (name .made .0) 0 ≡ true → sentSound n name ≡ true → NameSized name → nameFormat .Good name
 sent-fits n name m e s =
     let z = eqb-true (name .made .0) 0 m in
-    let t = all-true (sentTests n name) e in
+    let t = all-true _ e in
     let used = between-true 1 64 (name .used) (t .0) .1 in
     name-fits name (omega arith) (omega arith)
     (each-join Byte (name .used) (name .text) (uid-bytes (take (name .used) (name .text)) (t .1 .0)) (zero-bytes (drop (name .used) (name .text)) (t .1 .1 .1 .0)))
@@ -132,7 +124,7 @@ sent-fits n name m e s =
 
 made-fits : (n : Numbers) (name : Name) → n .serial ≤ noneLeft → madeSound n name ≡ true → NameSized name → nameFormat .Good name
 made-fits n name h e s =
-    let t = all-true (ltb (name .made .0) (n .serial) ∷ eqb (name .used) 0 ∷ zeros (name .text) ∷ []) e in
+    let t = all-true _ e in
     let below = ltb-true (name .made .0) (n .serial) (t .0) in
     let used = eqb-true (name .used) 0 (t .1 .0) in
     name-fits name (omega arith) (omega arith) (zero-bytes (name .text) (t .1 .1 .0)) s
@@ -147,7 +139,7 @@ good-name n name h e s = name-cases n name (eqb (name .made .0) 0) refl h e s
 
 pub good-no-name : (name : Name) → nameBlank name ≡ true → NameSized name → nameFormat .Good name
 good-no-name name e s =
-    let t = all-true (eqb (name .made .0) 0 ∷ eqb (name .used) 0 ∷ zeros (name .text) ∷ []) e in
+    let t = all-true _ e in
     let made = eqb-true (name .made .0) 0 (t .0) in
     let used = eqb-true (name .used) 0 (t .1 .0) in
     name-fits name (omega arith) (omega arith) (zero-bytes (name .text) (t .1 .1 .0)) s
@@ -180,7 +172,7 @@ no-session-fits : (s : Session) → s .live ≤ 1 → sessionBlank s ≡ true �
 unfolding sessionFormat
 no-session-fits s live e z =
     let values : List ℕ = s .copies ∷ s .priority ∷ s .medium ∷ s .destination ∷ s .used ∷ [] in
-    let t = all-true (nameBlank (s .name) ∷ zeros values ∷ zeros (s .label) ∷ []) e in
+    let t = all-true _ e in
     let v = zero-bytes values (t .1 .0) in
     (omega arith, (good-no-name (s .name) (t .0) (z .name), (v .0, (v .1 .0, (v .1 .1 .0, (v .1 .1 .1 .0, (v .1 .1 .1 .1 .0, good-array byte 64 (s .label) (z .label) (zero-bytes (s .label) (t .1 .1 .0)))))))))
 
@@ -193,14 +185,6 @@ good-session n s h live e z = session-cases n s (isLive s) h (leb-true (s .live)
 
 -- Layouts.
 
-abbrev layoutTests : Layout → List Bool
-layoutTests l =
-    between 1 6 (l .lines)
-    ∷ between 1 6 (getD (l .counts) 0 0)
-    ∷ every (eqb (getD (l .counts) 0 0)) (take (l .lines) (l .counts))
-    ∷ zeros (drop (l .lines) (l .counts))
-    ∷ []
-
 -- as many lines as there may be, and as many boxes in each
 pub record LayoutFacts (l : Layout) : Type 0 where
   pub lines : (1 ≤ l .lines) × (l .lines ≤ 6)
@@ -211,7 +195,7 @@ pub record LayoutFacts (l : Layout) : Type 0 where
 pub layout-facts : (l : Layout) → layoutSound l ≡ true → LayoutFacts l
 unfolding layoutSound
 layout-facts l e =
-    let t = all-true (layoutTests l) e in
+    let t = all-true _ e in
     let c = getD (l .counts) 0 0 in
     let first = between-true 1 6 c (t .1 .0) in
     record {
@@ -309,7 +293,7 @@ pub good-no-film : (f : Film) → filmBlank f ≡ true → FilmSized f → filmF
 unfolding filmFormat serialFormat layoutFormat
 good-no-film f e z =
     let values : List ℕ = f .layout .lines ∷ f .orientation ∷ f .magnification ∷ f .first .0 ∷ [] in
-    let t = all-true (nameBlank (f .name) ∷ zeros values ∷ zeros (f .layout .counts) ∷ every boxBlank (f .boxes) ∷ []) e in
+    let t = all-true _ e in
     let v = zero-bytes values (t .1 .0) in (
       good-no-name (f .name) (t .0) (z .name),
       (
@@ -351,7 +335,7 @@ pub good-entry : (n : Numbers) (x : Entry) → n .serial ≤ noneLeft → n .pic
 unfolding entryFormat entrySound
 good-entry n x h k e z =
     let below : Picture → Bool = λ (p : Picture). ltb (p .0) (n .picture) in
-    let t = all-true (every below (x .pictures) ∷ between 1 99 (x .copies) ∷ nameSound n (x .film) ∷ []) e in
+    let t = all-true _ e in
     let copies = between-true 1 99 (x .copies) (t .1 .0) .1 in (
       good-array pictureFormat mostBoxes (x .pictures) (z .pictures) (each-told (pictureFormat .Good) below (λ p s. good-picture n p k s) (x .pictures) (t .0)),
       (z .ticket, (omega arith, good-name n (x .film) h (t .1 .1 .0) (z .film))),
@@ -361,7 +345,7 @@ pub good-no-entry : (x : Entry) → entryBlank x ≡ true → EntrySized x → e
 unfolding entryFormat
 good-no-entry x e z =
     let zero-picture : Picture → Bool = λ (p : Picture). eqb (p .0) 0 in
-    let t = all-true (every zero-picture (x .pictures) ∷ zeros (x .ticket ∷ x .copies ∷ []) ∷ nameBlank (x .film) ∷ []) e in
+    let t = all-true _ e in
     let v = zero-bytes (x .ticket ∷ x .copies ∷ []) (t .1 .0) in (
       good-array pictureFormat mostBoxes (x .pictures) (z .pictures) (each-told (pictureFormat .Good) zero-picture good-no-picture (x .pictures) (t .0)),
       (z .ticket, (v .1 .0, good-no-name (x .film) (t .1 .1 .0) (z .film))),
@@ -389,7 +373,7 @@ opened-cases o true h e =
     let v = zero-bytes (o .context ∷ o .syntax ∷ o .room ∷ []) e in
     (omega arith, (v .0, (v .1 .0, omega (arith, v .1 .1 .0))))
 opened-cases o false h e =
-    let t = all-true (eqb (o .context % 2) 1 ∷ leb (o .context) 255 ∷ between 1 2 (o .syntax) ∷ between leastRoom mostRoom (o .room) ∷ []) e in
+    let t = all-true _ e in
     let context = leb-true (o .context) 255 (t .1 .0) in
     let syntax = between-true 1 2 (o .syntax) (t .1 .1 .0) .1 in
     let room = between-true leastRoom mostRoom (o .room) (t .1 .1 .1 .0) .1 in

@@ -71,11 +71,14 @@ run-keeps = run-kept Sound started-sound each-sound
 abbrev pub stateOf : Records Core → State
 stateOf s = record { core = s .core; input = inputHeld (s .input) }
 
+pub sound-parts : (s : State) → sound s ≡ true → (coreSound (s .core) ≡ true) × (inputSound (s .core .opened) (s .input) ≡ true)
+unfolding sound
+sound-parts s e = both-true (coreSound (s .core)) (inputSound (s .core .opened) (s .input)) e
+
 module _ (s : Records Core) where
-  sound-parts : sound (stateOf s) ≡ true → (coreSound (s .core) ≡ true) × RecordsFit s
-  unfolding sound
-  sound-parts e =
-      let r = both-true (coreSound (s .core)) (inputSound (s .core .opened) (inputHeld (s .input))) e in
+  records-parts : sound (stateOf s) ≡ true → (coreSound (s .core) ≡ true) × RecordsFit s
+  records-parts e =
+      let r = sound-parts (stateOf s) e in
       (r .0, sound-fits (s .core .opened) (s .input) (r .1))
 
   parts-sound : coreSound (s .core) ≡ true → RecordsFit s → sound (stateOf s) ≡ true
@@ -85,13 +88,13 @@ module _ (s : Records Core) where
 -- one call, refused or not
 pub call-keeps-rules : (s : Records Core) (call : Call Handed) → sound (stateOf s) ≡ true → sound (stateOf (step printing s call .records)) ≡ true
 call-keeps-rules s call e =
-    let r = sound-parts s e in
+    let r = records-parts s e in
     parts-sound (step printing s call .records) (step-keeps s call (r .0)) (step-fits s call (r .1))
 
 -- any run of calls
 pub run-keeps-rules : (s : Records Core) (calls : List (Call Handed)) → sound (stateOf s) ≡ true → sound (stateOf (after printing s calls)) ≡ true
 run-keeps-rules s calls e =
-    let r = sound-parts s e in
+    let r = records-parts s e in
     parts-sound (after printing s calls) (run-keeps s calls (r .0)) (run-fits s calls (r .1))
 
 -- a start that is done makes records that keep them, so that no run from a start meets a broken rule
@@ -102,9 +105,8 @@ start-keeps-rules s h rows =
 
 -- one call of the records that it unpacks, with the message buffer, and those that it packs
 pub call-sound : (s : State) (message : List ℕ) (call : Call Handed) → sound s ≡ true → sound (stateOf (step printing (recordsIn s message) call .records)) ≡ true
-unfolding sound
 call-sound s message call e =
-    let r = both-true (coreSound (s .core)) (inputSound (s .core .opened) (s .input)) e in
+    let r = sound-parts s e in
     let before : Records Core = recordsIn s message in
     parts-sound (step printing before call .records) (step-keeps before call (r .0))
     (step-fits before call (in-fits (s .core .opened) (s .input) message (r .1)))

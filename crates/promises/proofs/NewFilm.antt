@@ -22,14 +22,14 @@ use Rattle.rules.specs.Bounds.{mostBoxes}
 use Rattle.rules.specs.Lists.{every, any, apart, from, filledTo}
 use Rattle.rules.specs.Values.{blank, countsIn}
 use Rattle.rules.specs.Records.{serial, madeName, sentName, uidOf, boxCount, boxesOf, noBox, isLive, filmsOf, filmNamed, serialsUsed}
-use Rattle.rules.specs.Attributes.{Listing, look, valueOf, fine, mandatory, reference, optionalFilm, filmCreateStandings, filmWith, layoutIn}
+use Rattle.rules.specs.Attributes.{Listing, Standing, look, valueOf, fine, mandatory, reference, optionalFilm, filmCreateStandings, filmWith, layoutIn}
 use Rattle.rules.specs.Effects.{tooFewSerials, ownSerials, nameFrom, newBox, newFilm, filmSerials, filmCreated}
 use Rattle.rules.specs.Checks.{createRules, newFilmRules, sentUid}
 use Rattle.rules.specs.Sound.{nameSound, layoutSound, boxBlank, filmSound, Serials, overlap, ownSerial, serialsOf, sentText, sameText, uidsApart, coreSound}
-use Rattle.promises.proofs.ListLaws.{films-shelved, every-append, every-nil, every-one, every-cons, every-parts, every-replicate, apart-one, apart-append, map-append, from-length, take-filled, drop-filled}
+use Rattle.promises.proofs.ListLaws.{each-parts, films-shelved, every-append, every-nil, every-one, every-cons, every-parts, every-replicate, apart-one, apart-append, map-append, from-length, take-filled, drop-filled}
 use Rattle.promises.proofs.Facts.{core-facts, core-sound, Counted, counted, live-facts, shelf-facts, shelved-sound, filmRoom, films-few, film-facts, film-sound}
 use Rattle.promises.proofs.Later.{session-later, films-later, queue-later, serials-sound, serials-later}
-use Rattle.promises.proofs.Standings.{AllFine, kept-fine, fine-front, fine-behind, mandatory-fine, reference-live}
+use Rattle.promises.proofs.Standings.{AllFine, kept-fine, mandatory-fine, reference-live}
 use Rattle.promises.proofs.Layouts.{counts-grid, layout-sound, new-boxes}
 use Rattle.promises.proofs.Instances.{nobody-named}
 use Rattle.promises.proofs.NewNames.{Sendable, sendable, name-from-sound, apart-later, apart-none, own-below, text-none, text-free}
@@ -210,10 +210,11 @@ checked k sent l h =
     let format = mandatory blank (λ v. not (eqb (length (countsIn v)) 0)) l (look l 0x2010_0010) in
     let refers = reference k l (look l 0x2010_0500) in
     let all-fine : AllFine (format ∷ (refers ++ optionalFilm l)) = kept-fine (format ∷ (refers ++ optionalFilm l)) (h .0, (h .1 .0, (h .1 .1 .0, tt))) in
+    let parts = each-parts (λ (s : Standing). s ≡ fine) refers (optionalFilm l) (all-fine .1) in
     record {
-      live = reference-live k l (look l 0x2010_0500) (fine-front refers (optionalFilm l) (all-fine .1));
+      live = reference-live k l (look l 0x2010_0500) (parts .0);
       layout = layout-in-sound l (all-fine .0);
-      optional = fine-behind refers (optionalFilm l) (all-fine .1);
+      optional = parts .1;
       few = eqb-false (length (filmsOf (k .shelf))) 8 (h .1 .1 .1 .0);
       enough = h .1 .1 .1 .1 .0;
     }

@@ -22,13 +22,13 @@ use Rattle.rules.specs.declared.Input.{Input}
 use Rattle.rules.specs.declared.State.{State}
 use Rattle.rules.specs.Lists.{every}
 use Rattle.rules.specs.Layout.{recordsSize, unpack}
-use Rattle.rules.specs.Sound.{between, zeros, flag, openSound, openedSound, coreSound, inputSound, sound}
+use Rattle.rules.specs.Sound.{between, zeros, flag, openSound, openedSound, sound}
 use Rattle.rules.specs.Calls.{Handed, printing}
 use Rattle.rules.specs.Outcomes.{commandHeld, inputIn, recordsIn, written}
 use Rattle.promises.proofs.ListLaws.{all-true}
 use Rattle.promises.proofs.Facts.{between-true, core-facts}
 use Rattle.promises.proofs.Collecting.{Fits, in-fits, held-in}
-use Rattle.promises.proofs.Kept.{stateOf, call-sound}
+use Rattle.promises.proofs.Kept.{stateOf, sound-parts, call-sound}
 use Rattle.promises.proofs.Good.{CommandFits, InputFits, written-back}
 use Rattle.promises.proofs.SizedSteps.{step-sized}
 use Rattle.promises.proofs.Unpacked.{unpacked-sized, unpacked-command, CallBytes, step-fits}
@@ -56,10 +56,6 @@ data-fits o i message h c =
     (λ e. pick-cases So (eqb (i .phase) 2) skippingCommand _ (λ f r. tt)
     (λ f. pick-cases So (eqb (i .phase) 3) (inData (commandHeld i) (take (i .got) message)) _ (λ g r. (c, omega (arith, r .1 .1)))
     (λ g. pick-cases So (eqb (i .phase) 4) (skippingData (commandHeld i)) idle (λ j r. c) (λ j r. tt))))
-
-pub sound-parts : (s : State) → sound s ≡ true → (coreSound (s .core) ≡ true) × (inputSound (s .core .opened) (s .input) ≡ true)
-unfolding sound
-sound-parts s e = both-true (coreSound (s .core)) (inputSound (s .core .opened) (s .input)) e
 
 -- what a call leaves, of the records in these bytes and the data in the message buffer
 abbrev pub afterCall : List ℕ → List ℕ → Call Handed → Records Core

@@ -24,18 +24,19 @@ use Rattle.rules.specs.Calls.{Handed, startRules, check, started, taken, printi
 use Rattle.rules.proofs.Sizes.{records-size}
 use Rattle.rules.specs.Outcomes as outcomes
 use Rattle.rules.specs.Outcomes.{recordsIn, inputHeld, written, coreWritten, numberOf, recordsRules, changed, unchanged, orUnchanged, starts, opens, closes, Taking, nothingTaken, tookFrom, took, takes, Feeding, Lent, nothingFed, fedFrom, fedTo, lengths, feeds}
+use Rattle.promises.proofs.ListLaws.{Each}
 use Rattle.promises.proofs.Calls.{started-sound}
 use Rattle.fields.specs.Format.{write}
 use Rattle.fields.proofs.Laws.{read-write}
 use Rattle.promises.proofs.Packed.{state-laws}
-use Rattle.promises.proofs.Sized.{Each, Sized}
+use Rattle.promises.proofs.Sized.{Sized}
 use Rattle.promises.proofs.SizedAfter.{started-sized}
 use Rattle.promises.proofs.Collecting.{fits-sound}
-use Rattle.promises.proofs.Kept.{stateOf, call-sound}
+use Rattle.promises.proofs.Kept.{stateOf, sound-parts, call-sound}
 use Rattle.promises.proofs.SizedSteps.{step-sized}
 use Rattle.promises.proofs.Good.{Byte, good-core, written-back}
 use Rattle.promises.proofs.Unpacked.{unpacked-good, unpacked-sized, CallBytes}
-use Rattle.promises.proofs.Next.{sound-parts, afterCall, next-sound}
+use Rattle.promises.proofs.Next.{afterCall, next-sound}
 
 -- The calls over their buffers.
 

@@ -18,6 +18,7 @@ use Rattle.writing.proofs.Allowed.{below-limit}
 use Rattle.rules.specs.Bounds.{commandRoom, dataRoom, mostBoxes}
 use Rattle.rules.specs.Text.{chars, boxClass}
 use Rattle.rules.specs.Responses.{Says, Note, uidElement, numberElement, actionElement, dataSetType, responseElements, responseTree, reply, boxItems, filmTree}
+use Rattle.promises.proofs.ListLaws.{Each}
 
 -- a UID that may be left out has at most 64 characters
 abbrev pub Short : Option (List ℕ) → Type 0
@@ -30,8 +31,7 @@ pub record Brief (says : Says) : Type 0 where
 
 -- each of the UIDs has at most 64 characters
 abbrev pub AllShort : List (List ℕ) → Type 0
-AllShort [] = Unit {0}
-AllShort (uid ∷ uids) = (length uid ≤ 64) × AllShort uids
+AllShort uids = Each (λ (uid : List ℕ). length uid ≤ 64) uids
 
 -- A response's elements from a tag on.
 

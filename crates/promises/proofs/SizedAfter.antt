@@ -28,11 +28,11 @@ use Rattle.rules.specs.Attributes.{Listing, look, valueOf, fine, mandatory, opt
 use Rattle.rules.specs.Effects.{nameFrom, nextTicket, sessionCreated, newBox, newFilm, filmCreated, sessionSet, filmAt, filmSet, boxSetIn, numbersAfter, boxSet, sessionDeleted, filmDeleted, pictureOn, entryOf, entriesFor, ticketAfter, printed, queueRoom}
 use Rattle.rules.specs.Checks.{createRules, newSessionRules, newFilmRules, sentUid, sessionPrintRules, filmPrintRules}
 use Rattle.rules.specs.Calls.{Handed, startRules, started, opened, closed, taken}
-use Rattle.promises.proofs.ListLaws.{from-length}
+use Rattle.promises.proofs.ListLaws.{from-length, Each, each-or, each-append, each-take, each-drop, each-without, each-set, each-filled, filled-length}
 use Rattle.promises.proofs.Standings.{kept-fine, or-kept}
 use Rattle.promises.proofs.Layouts.{lines-few, layout-few}
 use Rattle.promises.proofs.NewNames.{sendable, sent-short}
-use Rattle.promises.proofs.Sized.{Each, each-or, each-append, each-take, each-drop, each-without, each-set, each-filled, filled-length, NameSized, SessionSized, FilmSized, ShelfSized, EntrySized, QueueSized, NumbersSized, Sized}
+use Rattle.promises.proofs.Sized.{NameSized, SessionSized, FilmSized, ShelfSized, EntrySized, QueueSized, NumbersSized, Sized}
 
 -- Nothing live.
 

@@ -3,7 +3,7 @@
 use Prim.Native.Nat.{ℕ, _+_, _≤_, _<_}
 use mathlib.Core.Path.{_≡_, refl, ap}
 use mathlib.Core.Bool.{Bool, true, false}
-use mathlib.Core.List.{List, [], _∷_, _++_}
+use mathlib.Core.List.{List, [], _∷_}
 use native.Mathlib.Omega.{arith}
 use lib.Dec.{leb}
 use lib.ListN.{length}
@@ -22,10 +22,10 @@ use Rattle.rules.specs.Values.{noBytes, blank, codeIn}
 use Rattle.rules.specs.Records.{uidOf, isLive}
 use Rattle.rules.specs.Commands.{bytesOf, placed}
 use Rattle.rules.specs.Attributes.{Listing, look, valueOf, itemsFound, onlyItem, Standing, missing, empty, wrong, fine, fineIf, is, mandatory, optional, given, orKept, codeAllowed, attributeRules, referenceStandings, reference}
+use Rattle.promises.proofs.ListLaws.{Each}
 
 abbrev pub AllFine : List Standing → Type 0
-AllFine [] = Unit {0}
-AllFine (s ∷ standings) = (s ≡ fine) × AllFine standings
+AllFine standings = Each (λ (s : Standing). s ≡ fine) standings
 
 one-fine : (s : Standing) → is missing s ≡ false → is empty s ≡ false → is wrong s ≡ false → s ≡ fine
 one-fine missing a b c = absurd (clash a refl)
@@ -48,14 +48,6 @@ fine-all (s ∷ standings) a b c =
 -- where check 8 is passed, all attributes stand well
 pub kept-fine : (standings : List Standing) → Kept (attributeRules standings) → AllFine standings
 kept-fine standings h = fine-all standings (h .0) (h .1 .0) (h .1 .1 .0)
-
-pub fine-front : (xs ys : List Standing) → AllFine (xs ++ ys) → AllFine xs
-fine-front [] ys h = tt
-fine-front (x ∷ xs) ys h = (h .0, fine-front xs ys (h .1))
-
-pub fine-behind : (xs ys : List Standing) → AllFine (xs ++ ys) → AllFine ys
-fine-behind [] ys h = h
-fine-behind (x ∷ xs) ys h = fine-behind xs ys (h .1)
 
 unfine : (s : Standing) → is fine s ≡ false → s ≡ fine → ⊥
 unfine s h e = clash h (ap (is fine) e)

@@ -12,7 +12,7 @@ use borrow.Author.Tests.{leb-true}
 use Rattle.choice.specs.Pick.{pick}
 use Rattle.choice.proofs.Picks.{pick-cases}
 use Rattle.octets.specs.Octets.{Bytes}
-use Rattle.strike.specs.Service.{DataSet, whole, tooLong, Result, fails, does, Reading, unreadable, alone, withData, Call, start, opening, feed, close, aside, Check, passes, refuses}
+use Rattle.strike.specs.Service.{DataSet, whole, tooLong, Result, fails, does, Reading, unreadable, alone, withData, Call, start, opening, feed, close, aside, passes}
 use Rattle.strike.specs.Machine as machine
 use Rattle.strike.specs.Machine.{Fragment, command, dataset, idle, inCommand, skippingCommand, inData, skippingData, Outcome, ignores, waits, drops, asks, Records, controlByte, headerWrong, fragmentIn, skips, reads, gathers, overflows, stores, collect, carriedOut, fed, checked, step}
 use Rattle.rules.specs.Bounds.{commandLimit, mostRoom, mostFilms, mostEntries}
@@ -28,10 +28,12 @@ use Rattle.rules.specs.declared.Input.{Input}
 use Rattle.rules.specs.Layout.{nameFormat, sessionFormat, layoutFormat, filmFormat, shelfFormat, entryFormat, queueFormat, numbersFormat, coreFormat, inputFormat, stateFormat, unpack}
 use Rattle.rules.specs.Responses.{Reply}
 use Rattle.rules.specs.Checks.{decide}
-use Rattle.rules.specs.Calls.{Handed, check, printing, reading}
+use Rattle.rules.specs.Calls.{Handed, printing, reading}
 use Rattle.rules.specs.Outcomes.{commandHeld}
+use Rattle.promises.proofs.ListLaws.{Each, each-all, each-append, each-take, each-drop}
+use Rattle.promises.proofs.Steps.{step-cases}
 use Rattle.promises.proofs.Packed.{state-laws}
-use Rattle.promises.proofs.Sized.{Each, each-all, each-append, each-take, each-drop, NameSized, SessionSized, FilmSized, ShelfSized, EntrySized, QueueSized, NumbersSized, Sized}
+use Rattle.promises.proofs.Sized.{NameSized, SessionSized, FilmSized, ShelfSized, EntrySized, QueueSized, NumbersSized, Sized}
 use Rattle.promises.proofs.Good.{Byte, CommandFits, InputFits}
 
 -- Records that fit their fields have arrays of their lengths.
@@ -200,16 +202,14 @@ unfolding fed
 fed-fits s none k h g = tt
 fed-fits s (some f) k h g = carried-fits (s .core) (collect reading (s .core .opened .room) (s .input) f) (collect-fits (s .core .opened .room) (s .input) f k h g)
 
-checked-fits : (x : Check) (s : Records Core) (c : Call Handed) → s .core .opened .room ≤ mostRoom → InputFits (s .input) → CallBytes c → InputFits (checked printing x s c .records .input)
+passed-fits : (s : Records Core) (c : Call Handed) → s .core .opened .room ≤ mostRoom → InputFits (s .input) → CallBytes c → InputFits (checked printing passes s c .records .input)
 unfolding checked
-checked-fits (refuses n) s c k h g = h
-checked-fits passes s (start a) k h g = tt
-checked-fits passes s (opening a) k h g = tt
-checked-fits passes s (feed bytes a) k h g = fed-fits s (fragmentIn (s .core .opened .context) bytes) k h (fragment-fits (s .core .opened .context) bytes g)
-checked-fits passes s (close a) k h g = tt
-checked-fits passes s (aside a) k h g = h
+passed-fits s (start a) k h g = tt
+passed-fits s (opening a) k h g = tt
+passed-fits s (feed bytes a) k h g = fed-fits s (fragmentIn (s .core .opened .context) bytes) k h (fragment-fits (s .core .opened .context) bytes g)
+passed-fits s (close a) k h g = tt
+passed-fits s (aside a) k h g = h
 
 -- the input fits its fields after every call
 pub step-fits : (s : Records Core) (c : Call Handed) → s .core .opened .room ≤ mostRoom → InputFits (s .input) → CallBytes c → InputFits (step printing s c .records .input)
-unfolding step
-step-fits s c k h g = checked-fits (check (s .core) c) s c k h g
+step-fits s c k h g = step-cases (λ (x : Records Core). InputFits (x .input)) s c h (λ r. passed-fits s c k h g)
