@@ -13,8 +13,10 @@ use borrow.Author.Tests.{eq-eqb, ne-eqb, le-leb, lt-leb}
 use Rattle.choice.specs.Pick.{pick, both}
 use Rattle.choice.proofs.Picks.{pick-cases}
 use Rattle.uids.specs.Uids.{digits}
-use Rattle.rules.specs.Lists.{every}
-use Rattle.rules.specs.Values.{withoutLeading, unlessSpace, withoutTrailing, trimmed, withoutPlus, decimalValue, countIn, labelByte}
+use Rattle.octets.specs.Octets.{same}
+use Rattle.rules.specs.Text.{chars}
+use Rattle.rules.specs.Lists.{every, placeOf}
+use Rattle.rules.specs.Values.{withoutLeading, unlessSpace, withoutTrailing, trimmed, withoutPlus, decimalValue, countIn, codeIn, labelByte, oneToSix, standard, countsIn}
 use Rattle.values.specs.Counted.{counted}
 
 -- all that stands behind a place
@@ -146,3 +148,46 @@ module _ (most : ℕ) (s v : List ℕ) (e : v ≡ trimmed s) where
     pub count-some : (length u ≡ 0 → ⊥) → counted most 0 u ≡ countIn most s
     unfolding countIn counted
     count-some z = simp (← e, ← f, le-leb (length v) 12 h, ne-eqb (length u) 0 z)
+
+-- A code, text by text.
+
+module _ (s w : List ℕ) (e : w ≡ trimmed s) where
+  pub code-here : (t : List ℕ) (ts : List (List ℕ)) → same t w ≡ true → 0 ≡ codeIn (t ∷ ts) s
+  unfolding codeIn placeOf
+  code-here t ts h = simp (← e, h)
+
+  pub code-next : (t : List ℕ) (ts : List (List ℕ)) (n : ℕ) → same t w ≡ false → n ≡ codeIn ts s → suc n ≡ codeIn (t ∷ ts) s
+  unfolding codeIn placeOf
+  code-next t ts n h k = ap suc k ∙ simp (← e, h)
+
+pub code-end : (s : List ℕ) → 0 ≡ codeIn [] s
+unfolding codeIn placeOf
+code-end s = refl
+
+-- A layout, part by part.
+
+module _ (t : List ℕ) where
+  pub standard-short : (length t ≡ 12 → ⊥) → false ≡ standard t
+  unfolding standard
+  standard-short n =
+      rw (ne-eqb (length t) 12 n)
+      (pick-cases (λ b. false ≡ b) (same (take 9 t) (chars "STANDARD\\")) false false (λ _. refl) (λ _. refl))
+
+  module _ (l : length t ≡ 12) where
+    pub standard-other : same (take 9 t) (chars "STANDARD\\") ≡ false → false ≡ standard t
+    unfolding standard
+    standard-other h = rw h
+
+    module _ (h : same (take 9 t) (chars "STANDARD\\") ≡ true) where
+      pub standard-columns : oneToSix (getD t 9 0) ≡ false → false ≡ standard t
+      unfolding standard
+      standard-columns k = rw (h, eq-eqb (length t) 12 l, k)
+
+      module _ (k : oneToSix (getD t 9 0) ≡ true) where
+        pub standard-comma : (getD t 10 0 ≡ 0x2C → ⊥) → false ≡ standard t
+        unfolding standard
+        standard-comma n = rw (h, eq-eqb (length t) 12 l, k, ne-eqb (getD t 10 0) 0x2C n)
+
+        pub standard-rows : getD t 10 0 ≡ 0x2C → oneToSix (getD t 11 0) ≡ standard t
+        unfolding standard
+        standard-rows n = rw (h, eq-eqb (length t) 12 l, k, eq-eqb (getD t 10 0) 0x2C n)

@@ -1,9 +1,9 @@
 // Values: texts, counts and labels as the book reads them.
 ghost use mathlib.Core.Path.{_≡_};
 ghost use Prim.Native.Nat.{_≤_, _<_};
-ghost use lib.ListN.{length, take, drop};
+ghost use lib.ListN.{length, take, drop, replicate};
 ghost use Rattle.rules.specs.Lists.{every};
-ghost use Rattle.rules.specs.Values.{withoutLeading, withoutTrailing, trimmed, blank, withoutPlus, countIn, labelByte, labelAllowed};
+ghost use Rattle.rules.specs.Values.{withoutLeading, withoutTrailing, trimmed, blank, withoutPlus, countIn, labelByte, labelAllowed, oneToSix, standard, countsIn, codeIn, priorities, media, destinations, orientations, magnifications, polarities, photometrics};
 ghost use Rattle.values.specs.Counted.{counted};
 
 const SPACE: u8 = b' ';
@@ -149,4 +149,55 @@ pub fn label_allowed(s: &[u8]) -> bool
         return false;
     }
     label_bytes(v)
+}
+
+// How many lines a layout has, and how many boxes each line; none where it is not allowed.
+pub struct Grid {
+    pub lines: u8,
+    pub boxes: u8,
+}
+
+fn one_to_six(b: u8) -> bool
+    ensures { λ r. ⌜ r ≡ oneToSix b ⌝ }
+{
+    if b < 49 {
+        return false;
+    }
+    b <= 54
+}
+
+// Whether a text is STANDARD with columns and rows.
+fn is_standard(t: &[u8]) -> bool
+    ensures { λ r. ⌜ r ≡ standard (now (t .entry)) ⌝ }
+{
+    if t.len() != 12 {
+        return false;
+    }
+    if !octets::same_bytes(&t[0..9], b"STANDARD\\") {
+        return false;
+    }
+    if !one_to_six(t[9]) {
+        return false;
+    }
+    if t[10] != b',' {
+        return false;
+    }
+    one_to_six(t[11])
+}
+
+// The place of a priority; 3 where it is none.
+pub fn priority_in(s: &[u8]) -> usize
+    ensures { λ r. ⌜ r ≡ codeIn priorities (now (s .entry)) ⌝ }
+{
+    let v = trimmed(s);
+    if octets::same_bytes(b"LOW", v) {
+        return 0;
+    }
+    if octets::same_bytes(b"MED", v) {
+        return 1;
+    }
+    if octets::same_bytes(b"HIGH", v) {
+        return 2;
+    }
+    3
 }
