@@ -7,11 +7,11 @@ use mathlib.Core.List.{List, [], _∷_, _++_}
 use native.Mathlib.Numerals.{add-one}
 use native.Mathlib.Omega.{arith}
 use lib.Dec.{eqb, leb}
-use lib.ListN.{length, getD, take, drop, length-drop, drop-of-length-le}
+use lib.ListN.{length, getD, take, drop, replicate, length-drop, drop-of-length-le}
 use lib.Seq.{drop-cons, take-suc, take-all}
-use borrow.Author.Tests.{eq-eqb, ne-eqb, le-leb, lt-leb}
+use borrow.Author.Tests.{eq-eqb, ne-eqb, le-leb, lt-leb, leb-true, eqb-true}
 use Rattle.choice.specs.Pick.{pick, both}
-use Rattle.choice.proofs.Picks.{pick-cases}
+use Rattle.choice.proofs.Picks.{pick-cases, both-true}
 use Rattle.uids.specs.Uids.{digits}
 use Rattle.octets.specs.Octets.{same}
 use Rattle.rules.specs.Text.{chars}
@@ -191,3 +191,26 @@ module _ (t : List ℕ) where
         pub standard-rows : getD t 10 0 ≡ 0x2C → oneToSix (getD t 11 0) ≡ standard t
         unfolding standard
         standard-rows n = rw (h, eq-eqb (length t) 12 l, k, eq-eqb (getD t 10 0) 0x2C n)
+
+-- what a layout's text has
+pub standard-has : (t : List ℕ) → standard t ≡ true → (length t ≡ 12) × ((48 < getD t 9 0) × (getD t 9 0 ≤ 54)) × ((48 < getD t 11 0) × (getD t 11 0 ≤ 54))
+unfolding standard
+standard-has t e =
+    let a = both-true (same (take 9 t) (chars "STANDARD\\")) _ e .1 in
+    let b = both-true (eqb (length t) 12) _ a in
+    let d = both-true (oneToSix (getD t 9 0)) _ (b .1) in
+    let f = both-true (leb 49 (getD t 9 0)) (leb (getD t 9 0) 54) (d .0) in
+    let g = both-true (eqb (getD t 10 0) 0x2C) (oneToSix (getD t 11 0)) (d .1) .1 in
+    let h = both-true (leb 49 (getD t 11 0)) (leb (getD t 11 0) 54) g in
+    let i = leb-true 49 (getD t 9 0) (f .0) in
+    let j = leb-true 49 (getD t 11 0) (h .0) in
+    (eqb-true (length t) 12 (b .0), (omega arith, leb-true (getD t 9 0) 54 (f .1)), (omega arith, leb-true (getD t 11 0) 54 (h .1)))
+
+module _ (s t : List ℕ) (e : t ≡ withoutTrailing s) where
+  pub counts-none : standard t ≡ false → [] ≡ countsIn s
+  unfolding countsIn
+  counts-none h = simp (← e, h)
+
+  pub counts-some : standard t ≡ true → replicate (getD t 11 0 - 48) (getD t 9 0 - 48) ≡ countsIn s
+  unfolding countsIn
+  counts-some h = simp (← e, h)

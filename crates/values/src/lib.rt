@@ -185,6 +185,20 @@ fn is_standard(t: &[u8]) -> bool
     one_to_six(t[11])
 }
 
+// A layout: columns first, then rows.
+pub fn counts_in(s: &[u8]) -> Grid
+    ensures { λ r. ⌜ (replicate (r .lines) (r .boxes) ≡ countsIn (now (s .entry))) × (r .lines ≤ 6) × (r .boxes ≤ 6) ⌝ }
+{
+    let t = without_trailing(s);
+    if !is_standard(t) {
+        return Grid { lines: 0, boxes: 0 };
+    }
+    Grid {
+        lines: t[11] - 48,
+        boxes: t[9] - 48,
+    }
+}
+
 // The place of a priority; 3 where it is none.
 pub fn priority_in(s: &[u8]) -> usize
     ensures { λ r. ⌜ r ≡ codeIn priorities (now (s .entry)) ⌝ }
@@ -200,4 +214,97 @@ pub fn priority_in(s: &[u8]) -> usize
         return 2;
     }
     3
+}
+
+// The place of a medium; 3 where it is none.
+pub fn medium_in(s: &[u8]) -> usize
+    ensures { λ r. ⌜ r ≡ codeIn media (now (s .entry)) ⌝ }
+{
+    let v = trimmed(s);
+    if octets::same_bytes(b"PAPER", v) {
+        return 0;
+    }
+    if octets::same_bytes(b"CLEAR FILM", v) {
+        return 1;
+    }
+    if octets::same_bytes(b"BLUE FILM", v) {
+        return 2;
+    }
+    3
+}
+
+// The place of a destination; 2 where it is none.
+pub fn destination_in(s: &[u8]) -> usize
+    ensures { λ r. ⌜ r ≡ codeIn destinations (now (s .entry)) ⌝ }
+{
+    let v = trimmed(s);
+    if octets::same_bytes(b"MAGAZINE", v) {
+        return 0;
+    }
+    if octets::same_bytes(b"PROCESSOR", v) {
+        return 1;
+    }
+    2
+}
+
+// The place of an orientation; 2 where it is none.
+pub fn orientation_in(s: &[u8]) -> usize
+    ensures { λ r. ⌜ r ≡ codeIn orientations (now (s .entry)) ⌝ }
+{
+    let v = trimmed(s);
+    if octets::same_bytes(b"PORTRAIT", v) {
+        return 0;
+    }
+    if octets::same_bytes(b"LANDSCAPE", v) {
+        return 1;
+    }
+    2
+}
+
+// The place of a magnification; 4 where it is none.
+pub fn magnification_in(s: &[u8]) -> usize
+    ensures { λ r. ⌜ r ≡ codeIn magnifications (now (s .entry)) ⌝ }
+{
+    let v = trimmed(s);
+    if octets::same_bytes(b"NONE", v) {
+        return 0;
+    }
+    if octets::same_bytes(b"REPLICATE", v) {
+        return 1;
+    }
+    if octets::same_bytes(b"BILINEAR", v) {
+        return 2;
+    }
+    if octets::same_bytes(b"CUBIC", v) {
+        return 3;
+    }
+    4
+}
+
+// The place of a polarity; 2 where it is none.
+pub fn polarity_in(s: &[u8]) -> usize
+    ensures { λ r. ⌜ r ≡ codeIn polarities (now (s .entry)) ⌝ }
+{
+    let v = trimmed(s);
+    if octets::same_bytes(b"NORMAL", v) {
+        return 0;
+    }
+    if octets::same_bytes(b"REVERSE", v) {
+        return 1;
+    }
+    2
+}
+
+// The place of a photometric interpretation; 2 where it is none.
+pub fn photometric_in(s: &[u8]) -> usize
+    ensures { λ r. ⌜ r ≡ codeIn photometrics (now (s .entry)) ⌝ }
+{
+    let v = trimmed(s);
+    if octets::same_bytes(b"MONOCHROME1", v) {
+        return 0;
+    }
+    if octets::same_bytes(b"MONOCHROME2", v) {
+        return 1;
+    }
+    2
 }

@@ -1,15 +1,10 @@
 use borrow.Author.Tests.{le-leb, lt-leb}
-use borrow.Author.Needs.{needs}
 use Rattle.values.proofs.one_to_six.Statement.{statement}
 use Rattle.values.proofs.one_to_six.Tie as tie
-use Rattle.values.proofs.one_to_six.Reads as reads
-use Rattle.values.proofs.one_to_six.Lts as lts
 
--- src/lib.rt:164:9
 returns : tie.Need-returns
 returns c = simp (lt-leb 49 _ (c .if1 .taken))
 
--- src/lib.rt:160:1
 returns-2 : tie.Need-returns-2
 returns-2 c = simp (le-leb 49 _ (c .if1 .left))
 
