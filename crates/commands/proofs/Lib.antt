@@ -1,2 +1,3 @@
--- The laws of commands.
+-- The laws of commands: what layers above cite, and what the functions rest on.
+pub mod Within
 mod Laws

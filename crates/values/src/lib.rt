@@ -85,7 +85,7 @@ fn without_plus(s: &[u8]) -> &[u8]
 // The number that digits give, 0 where they are none or give more than `most`.
 fn digits_count(s: &[u8], most: usize) -> usize
     requires { ⌜ most < 4294967296 ⌝ }
-    ensures { λ r. ⌜ r ≡ counted most 0 (now (s .entry)) ⌝ }
+    ensures { λ r. ⌜ (r ≡ counted most 0 (now (s .entry))) × (r ≤ most) ⌝ }
 {
     let mut v = 0;
     let mut i = 0;
@@ -108,7 +108,7 @@ fn digits_count(s: &[u8], most: usize) -> usize
 // The number that an IS gives, 0 where it gives none from 1 to `most`.
 pub fn count_in(s: &[u8], most: usize) -> usize
     requires { ⌜ most < 4294967296 ⌝ }
-    ensures { λ r. ⌜ r ≡ countIn most (now (s .entry)) ⌝ }
+    ensures { λ r. ⌜ (r ≡ countIn most (now (s .entry))) × (r ≤ most) ⌝ }
 {
     let v = trimmed(s);
     if 12 < v.len() {
@@ -201,7 +201,7 @@ pub fn counts_in(s: &[u8]) -> Grid
 
 // The place of a priority; 3 where it is none.
 pub fn priority_in(s: &[u8]) -> usize
-    ensures { λ r. ⌜ r ≡ codeIn priorities (now (s .entry)) ⌝ }
+    ensures { λ r. ⌜ (r ≡ codeIn priorities (now (s .entry))) × (r ≤ 3) ⌝ }
 {
     let v = trimmed(s);
     if octets::same_bytes(b"LOW", v) {
@@ -218,7 +218,7 @@ pub fn priority_in(s: &[u8]) -> usize
 
 // The place of a medium; 3 where it is none.
 pub fn medium_in(s: &[u8]) -> usize
-    ensures { λ r. ⌜ r ≡ codeIn media (now (s .entry)) ⌝ }
+    ensures { λ r. ⌜ (r ≡ codeIn media (now (s .entry))) × (r ≤ 3) ⌝ }
 {
     let v = trimmed(s);
     if octets::same_bytes(b"PAPER", v) {
@@ -235,7 +235,7 @@ pub fn medium_in(s: &[u8]) -> usize
 
 // The place of a destination; 2 where it is none.
 pub fn destination_in(s: &[u8]) -> usize
-    ensures { λ r. ⌜ r ≡ codeIn destinations (now (s .entry)) ⌝ }
+    ensures { λ r. ⌜ (r ≡ codeIn destinations (now (s .entry))) × (r ≤ 2) ⌝ }
 {
     let v = trimmed(s);
     if octets::same_bytes(b"MAGAZINE", v) {
@@ -249,7 +249,7 @@ pub fn destination_in(s: &[u8]) -> usize
 
 // The place of an orientation; 2 where it is none.
 pub fn orientation_in(s: &[u8]) -> usize
-    ensures { λ r. ⌜ r ≡ codeIn orientations (now (s .entry)) ⌝ }
+    ensures { λ r. ⌜ (r ≡ codeIn orientations (now (s .entry))) × (r ≤ 2) ⌝ }
 {
     let v = trimmed(s);
     if octets::same_bytes(b"PORTRAIT", v) {
@@ -263,7 +263,7 @@ pub fn orientation_in(s: &[u8]) -> usize
 
 // The place of a magnification; 4 where it is none.
 pub fn magnification_in(s: &[u8]) -> usize
-    ensures { λ r. ⌜ r ≡ codeIn magnifications (now (s .entry)) ⌝ }
+    ensures { λ r. ⌜ (r ≡ codeIn magnifications (now (s .entry))) × (r ≤ 4) ⌝ }
 {
     let v = trimmed(s);
     if octets::same_bytes(b"NONE", v) {
@@ -283,7 +283,7 @@ pub fn magnification_in(s: &[u8]) -> usize
 
 // The place of a polarity; 2 where it is none.
 pub fn polarity_in(s: &[u8]) -> usize
-    ensures { λ r. ⌜ r ≡ codeIn polarities (now (s .entry)) ⌝ }
+    ensures { λ r. ⌜ (r ≡ codeIn polarities (now (s .entry))) × (r ≤ 2) ⌝ }
 {
     let v = trimmed(s);
     if octets::same_bytes(b"NORMAL", v) {
@@ -297,7 +297,7 @@ pub fn polarity_in(s: &[u8]) -> usize
 
 // The place of a photometric interpretation; 2 where it is none.
 pub fn photometric_in(s: &[u8]) -> usize
-    ensures { λ r. ⌜ r ≡ codeIn photometrics (now (s .entry)) ⌝ }
+    ensures { λ r. ⌜ (r ≡ codeIn photometrics (now (s .entry))) × (r ≤ 2) ⌝ }
 {
     let v = trimmed(s);
     if octets::same_bytes(b"MONOCHROME1", v) {

@@ -20,17 +20,17 @@ loop-holds c = (search needs, search needs, refl)
 returns : tie.Need-returns Inv-loop μ-loop
 returns c =
     let o = c .before .before .before .loop in
-    sym (o .inv .2 ∙ counted-low _ (o .v) _ (o .i) (c .before .before .loop-test .taken) (c .if1 .taken))
+    (sym (o .inv .2 ∙ counted-low _ (o .v) _ (o .i) (c .before .before .loop-test .taken) (c .if1 .taken)), search needs)
 
 returns-2 : tie.Need-returns-2 Inv-loop μ-loop
 returns-2 c =
     let o = c .before .before .before .before .before .loop in
-    sym (o .inv .2 ∙ counted-high _ (o .v) _ (o .i) (c .before .before .before .before .loop-test .taken) (c .before .before .if1 .left) (c .if2 .taken))
+    (sym (o .inv .2 ∙ counted-high _ (o .v) _ (o .i) (c .before .before .before .before .loop-test .taken) (c .before .before .if1 .left) (c .if2 .taken)), search needs)
 
 returns-3 : tie.Need-returns-3 Inv-loop μ-loop
 returns-3 c =
     let o = c .before .before .before .before .before .before .before .loop in
-    sym (o .inv .2 ∙ counted-turn _ (o .v) _ (o .i) (c .before .before .before .before .before .before .loop-test .taken) (c .before .before .before .before .if1 .left) (c .before .before .if2 .left) ∙ counted-over _ _ _ (c .if3 .taken))
+    (sym (o .inv .2 ∙ counted-turn _ (o .v) _ (o .i) (c .before .before .before .before .before .before .loop-test .taken) (c .before .before .before .before .if1 .left) (c .before .before .if2 .left) ∙ counted-over _ _ _ (c .if3 .taken)), search needs)
 
 loop-again : tie.Need-loop-again Inv-loop μ-loop
 loop-again c =
@@ -39,7 +39,7 @@ loop-again c =
 
 returns-4 : tie.Need-returns-4 Inv-loop μ-loop
 returns-4 c = let o = c .before .loop in
-    sym (o .inv .2 ∙ counted-end _ (o .v) _ (o .i) (o .inv .1) (c .loop-test .left))
+    (sym (o .inv .2 ∙ counted-end _ (o .v) _ (o .i) (o .inv .1) (c .loop-test .left)), search needs)
 
 pub digits-count-spec : {M : Type 1} → statement M
 digits-count-spec =

@@ -7,19 +7,19 @@ use Rattle.values.proofs.priority_in.Tie as tie
 
 returns : tie.Need-returns
 unfolding chars
-returns c = code-here _ _ (c .before .before .before .trimmed .ensures) _ _ (sym (c .before .same-bytes .ensures) ∙ c .if1 .taken)
+returns c = (code-here _ _ (c .before .before .before .trimmed .ensures) _ _ (sym (c .before .same-bytes .ensures) ∙ c .if1 .taken), search needs)
 
 returns-2 : tie.Need-returns-2
 unfolding chars
-returns-2 c = code-next _ _ (c .before .before .before .before .before .before .trimmed .ensures) _ _ _ (sym (c .before .before .before .before .same-bytes .ensures) ∙ c .before .before .before .if1 .left) (code-here _ _ (c .before .before .before .before .before .before .trimmed .ensures) _ _ (sym (c .before .same-bytes2 .ensures) ∙ c .if2 .taken))
+returns-2 c = (code-next _ _ (c .before .before .before .before .before .before .trimmed .ensures) _ _ _ (sym (c .before .before .before .before .same-bytes .ensures) ∙ c .before .before .before .if1 .left) (code-here _ _ (c .before .before .before .before .before .before .trimmed .ensures) _ _ (sym (c .before .same-bytes2 .ensures) ∙ c .if2 .taken)), search needs)
 
 returns-3 : tie.Need-returns-3
 unfolding chars
-returns-3 c = code-next _ _ (c .before .before .before .before .before .before .before .before .before .trimmed .ensures) _ _ _ (sym (c .before .before .before .before .before .before .before .same-bytes .ensures) ∙ c .before .before .before .before .before .before .if1 .left) (code-next _ _ (c .before .before .before .before .before .before .before .before .before .trimmed .ensures) _ _ _ (sym (c .before .before .before .before .same-bytes2 .ensures) ∙ c .before .before .before .if2 .left) (code-here _ _ (c .before .before .before .before .before .before .before .before .before .trimmed .ensures) _ _ (sym (c .before .same-bytes3 .ensures) ∙ c .if3 .taken)))
+returns-3 c = (code-next _ _ (c .before .before .before .before .before .before .before .before .before .trimmed .ensures) _ _ _ (sym (c .before .before .before .before .before .before .before .same-bytes .ensures) ∙ c .before .before .before .before .before .before .if1 .left) (code-next _ _ (c .before .before .before .before .before .before .before .before .before .trimmed .ensures) _ _ _ (sym (c .before .before .before .before .same-bytes2 .ensures) ∙ c .before .before .before .if2 .left) (code-here _ _ (c .before .before .before .before .before .before .before .before .before .trimmed .ensures) _ _ (sym (c .before .same-bytes3 .ensures) ∙ c .if3 .taken))), search needs)
 
 returns-4 : tie.Need-returns-4
 unfolding chars
-returns-4 c = code-next _ _ (c .before .before .before .before .before .before .before .before .before .trimmed .ensures) _ _ _ (sym (c .before .before .before .before .before .before .before .same-bytes .ensures) ∙ c .before .before .before .before .before .before .if1 .left) (code-next _ _ (c .before .before .before .before .before .before .before .before .before .trimmed .ensures) _ _ _ (sym (c .before .before .before .before .same-bytes2 .ensures) ∙ c .before .before .before .if2 .left) (code-next _ _ (c .before .before .before .before .before .before .before .before .before .trimmed .ensures) _ _ _ (sym (c .before .same-bytes3 .ensures) ∙ c .if3 .left) (code-end _)))
+returns-4 c = (code-next _ _ (c .before .before .before .before .before .before .before .before .before .trimmed .ensures) _ _ _ (sym (c .before .before .before .before .before .before .before .same-bytes .ensures) ∙ c .before .before .before .before .before .before .if1 .left) (code-next _ _ (c .before .before .before .before .before .before .before .before .before .trimmed .ensures) _ _ _ (sym (c .before .before .before .before .same-bytes2 .ensures) ∙ c .before .before .before .if2 .left) (code-next _ _ (c .before .before .before .before .before .before .before .before .before .trimmed .ensures) _ _ _ (sym (c .before .same-bytes3 .ensures) ∙ c .if3 .left) (code-end _))), search needs)
 
 pub priority-in-spec : {M : Type 1} → statement M
 priority-in-spec =
