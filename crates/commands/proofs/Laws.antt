@@ -3,7 +3,7 @@
 use Prim.Native.Nat.{ℕ, _+_, _*_, _≤_, _<_}
 use mathlib.Core.Path.{_≡_, refl, subst, ap, _∙_}
 use mathlib.Core.Bool.{Bool, true, false}
-use mathlib.Core.List.{List, [], _∷_}
+use mathlib.Core.List.{List}
 use native.Mathlib.Omega.{arith}
 use lib.Dec.{ltb}
 use lib.ListN.{length, getD, take}
@@ -15,11 +15,10 @@ use Rattle.headers.specs.declared.Part.{Part}
 use Rattle.headers.specs.declared.Close.the-variants.{Here, Not}
 use Rattle.headers.specs.Header.{tagAt, closeAt}
 use Rattle.headers.proofs.Within.{Fits}
-use Rattle.elements.specs.declared.Found.{Found}
-use Rattle.elements.specs.declared.Found.the-variants.{Missing, Value, Sequence}
+use Rattle.elements.specs.declared.Found.the-variants.{Value}
 use Rattle.elements.specs.declared.Read.the-variants.{Past, Refused}
-use Rattle.elements.specs.Reader.{Mark, start, whole, itemEnd, elementAt}
-use Rattle.elements.specs.Find.{elementsFrom, findAt}
+use Rattle.elements.specs.Reader.{Mark, whole, itemEnd, elementAt}
+use Rattle.elements.specs.Find.{elementsFrom}
 use Rattle.elements.proofs.Within.{FoundIn}
 use Rattle.elements.proofs.Laws.{find-within, elements-done, elements-refused, elements-more}
 use Rattle.rules.specs.Lists.{every}

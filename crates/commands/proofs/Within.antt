@@ -1,6 +1,6 @@
 -- The places of a request lie within its command set.
 -- Assumes nothing.
-use Prim.Native.Nat.{ℕ, _≤_}
+use Prim.Native.Nat.{ℕ}
 use mathlib.Core.Path.{_≡_, subst}
 use mathlib.Core.Bool.{Bool, false}
 use mathlib.Core.List.{List}

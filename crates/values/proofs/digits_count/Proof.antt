@@ -1,6 +1,5 @@
 use Prim.Native.Nat.{_-_, _≤_}
 use mathlib.Core.Path.{_≡_, refl, sym, _∙_}
-use native.Mathlib.Omega.{arith}
 use lib.ListN.{length, drop}
 use Rattle.values.specs.Counted.{counted}
 use Rattle.values.proofs.Turns.{counted-over, counted-low, counted-high, counted-turn, counted-end}

@@ -1,5 +1,5 @@
 use Prim.Native.Nat.{_-_, _≤_}
-use mathlib.Core.Path.{_≡_, refl, sym, _∙_}
+use mathlib.Core.Path.{_≡_, refl, _∙_}
 use lib.ListN.{length, drop}
 use Rattle.rules.specs.Values.{withoutLeading}
 use Rattle.values.proofs.Turns.{leading-space, leading-stop, leading-end}
