@@ -1,0 +1,33 @@
+-- A test of every element of a list, from its first to its last; and of the first few.
+-- Assumes nothing.
+use Prim.Native.Nat.{ℕ, _+_, _<_, _≤_}
+use mathlib.Core.Path.{_≡_, refl, _∙_}
+use mathlib.Core.Bool.{Bool, true, false}
+use mathlib.Core.List.{List}
+use native.Mathlib.Numerals.{add-one}
+use lib.ListN.{length, getD, drop, drop-of-length-le}
+use lib.Seq.{drop-cons}
+use Rattle.choice.specs.Pick.{both}
+use Rattle.rules.specs.Lists.{every}
+
+module _ {A : Type 0} (test : A → Bool) (xs : List A) (d : A) (i : ℕ) where
+  turn : i < length xs → every test (drop i xs) ≡ both (test (getD xs i d)) (every test (drop (i + 1) xs))
+  unfolding every
+  turn h = rw (add-one i, drop-cons xs i d h)
+
+  -- the element at i passes: the next ones
+  pub every-on : i < length xs → test (getD xs i d) ≡ true → every test (drop i xs) ≡ every test (drop (i + 1) xs)
+  every-on h e = turn h ∙ rw e
+
+  -- it does not
+  pub every-not : i < length xs → test (getD xs i d) ≡ false → every test (drop i xs) ≡ false
+  every-not h e = turn h ∙ rw e
+
+pub every-end : {A : Type 0} (test : A → Bool) (xs : List A) (i : ℕ) → length xs ≤ i → every test (drop i xs) ≡ true
+unfolding every
+every-end test xs i h = rw (drop-of-length-le xs h)
+
+-- the last of some tests
+pub both-true : (b : Bool) → both b true ≡ b
+both-true true = refl
+both-true false = refl
