@@ -3,12 +3,13 @@
 use Prim.Native.Nat.{ℕ, _+_, _<_, _≤_}
 use mathlib.Core.Path.{_≡_, refl, _∙_}
 use mathlib.Core.Bool.{Bool, true, false}
-use mathlib.Core.List.{List}
+use mathlib.Core.List.{List, [], _∷_}
 use native.Mathlib.Numerals.{add-one}
 use lib.ListN.{length, getD, drop, drop-of-length-le}
 use lib.Seq.{drop-cons}
 use Rattle.choice.specs.Pick.{both}
 use Rattle.rules.specs.Lists.{every}
+use Rattle.rules.specs.Sound.{all}
 
 module _ {A : Type 0} (test : A → Bool) (xs : List A) (d : A) (i : ℕ) where
   turn : i < length xs → every test (drop i xs) ≡ both (test (getD xs i d)) (every test (drop (i + 1) xs))
@@ -31,3 +32,16 @@ every-end test xs i h = rw (drop-of-length-le xs h)
 pub both-true : (b : Bool) → both b true ≡ b
 both-true true = refl
 both-true false = refl
+
+-- of some tests the first fails, or holds, or is the only one
+pub all-stop : (b : Bool) (bs : List Bool) → b ≡ false → all (b ∷ bs) ≡ false
+unfolding every
+all-stop b bs e = rw e
+
+pub all-next : (b : Bool) (bs : List Bool) → b ≡ true → all (b ∷ bs) ≡ all bs
+unfolding every
+all-next b bs e = rw e
+
+pub all-one : (b : Bool) → all (b ∷ []) ≡ b
+unfolding every
+all-one b = both-true b

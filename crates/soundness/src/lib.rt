@@ -1,12 +1,20 @@
 // Soundness: the rules that the records keep, tested.
+use rules::Entry;
+use rules::ImageBox;
+use rules::Layout;
 use rules::Name;
 use rules::Numbers;
 use rules::Opened;
+use rules::Picture;
+use rules::Session;
 ghost use mathlib.Core.Path.{_≡_};
 ghost use Prim.Native.Nat.{_≤_};
+ghost use mathlib.Core.List.{[], _∷_};
+ghost use lib.Dec.{eqb, ltb};
 ghost use lib.ListN.{length, take, drop};
 ghost use Rattle.uids.specs.Uids.{isUid, beginsWith};
-ghost use Rattle.rules.specs.Sound.{zeros, nameBlank, sentSound, madeSound, nameSound, numbersSound, openSound, openedSound};
+ghost use Rattle.rules.specs.Lists.{every};
+ghost use Rattle.rules.specs.Sound.{zeros, layoutSound, boxSound, boxBlank, entrySound, entryBlank, sessionBlank, nameBlank, sentSound, madeSound, nameSound, numbersSound, openSound, openedSound};
 
 // Whether all bytes from a place on are zeros.
 fn zeros_from(s: &[u8], from: usize) -> bool
@@ -185,4 +193,191 @@ fn opened_sound(o: Opened) -> bool
         return false;
     }
     true
+}
+
+// Whether every byte is k.
+fn all_same(s: &[u8], k: u8) -> bool
+    ensures { λ r. ⌜ r ≡ every (eqb k) (now (s .entry)) ⌝ }
+{
+    let mut i = 0;
+    while i < s.len() {
+        if k != s[i] {
+            return false;
+        }
+        i += 1;
+    }
+    true
+}
+
+fn begins_same(s: &[u8], n: usize, k: u8) -> bool
+    ensures { λ r. ⌜ r ≡ every (eqb k) (take n (now (s .entry))) ⌝ }
+{
+    let m = within(s, n);
+    all_same(&s[0..m], k)
+}
+
+fn layout_sound(l: Layout) -> bool
+    ensures { λ r. ⌜ r ≡ layoutSound l ⌝ }
+{
+    if l.lines < 1 {
+        return false;
+    }
+    if 6 < l.lines {
+        return false;
+    }
+    let counts = l.counts;
+    let columns = counts[0];
+    if columns < 1 {
+        return false;
+    }
+    if 6 < columns {
+        return false;
+    }
+    if !begins_same(&counts, l.lines as usize, columns) {
+        return false;
+    }
+    zeros_from(&counts, l.lines as usize)
+}
+
+fn box_sound(boxes: usize, n: Numbers, b: ImageBox) -> bool
+    ensures { λ r. ⌜ r ≡ boxSound boxes n b ⌝ }
+{
+    if b.position < 1 {
+        return false;
+    }
+    if boxes < b.position as usize {
+        return false;
+    }
+    if 1 < b.polarity {
+        return false;
+    }
+    let picture = b.picture;
+    if n.picture <= picture.0 as u64 {
+        return false;
+    }
+    true
+}
+
+fn box_blank(b: ImageBox) -> bool
+    ensures { λ r. ⌜ r ≡ boxBlank b ⌝ }
+{
+    if b.position != 0 {
+        return false;
+    }
+    if b.polarity != 0 {
+        return false;
+    }
+    let picture = b.picture;
+    if picture.0 != 0 {
+        return false;
+    }
+    true
+}
+
+fn pictures_below(ps: [Picture; 36], next: u64) -> bool
+    ensures { λ r. ⌜ r ≡ every (λ p. ltb (p .0) next) ps ⌝ }
+{
+    let xs = ps;
+    let mut i = 0;
+    while i < 36 {
+        let x = xs[i];
+        if next <= x.0 as u64 {
+            return false;
+        }
+        i += 1;
+    }
+    true
+}
+
+fn no_pictures(ps: [Picture; 36]) -> bool
+    ensures { λ r. ⌜ r ≡ every (λ p. eqb (p .0) 0) ps ⌝ }
+{
+    let xs = ps;
+    let mut i = 0;
+    while i < 36 {
+        let x = xs[i];
+        if x.0 != 0 {
+            return false;
+        }
+        i += 1;
+    }
+    true
+}
+
+fn entry_sound(n: Numbers, e: Entry) -> bool
+    ensures { λ r. ⌜ r ≡ entrySound n e ⌝ }
+{
+    let pictures = e.pictures;
+    if !pictures_below(pictures, n.picture) {
+        return false;
+    }
+    if e.copies < 1 {
+        return false;
+    }
+    if 99 < e.copies {
+        return false;
+    }
+    let film = e.film;
+    name_sound(n, film)
+}
+
+fn unused(e: Entry) -> bool
+    ensures { λ r. ⌜ r ≡ zeros (e .ticket ∷ e .copies ∷ []) ⌝ }
+{
+    if e.ticket != 0 {
+        return false;
+    }
+    if e.copies != 0 {
+        return false;
+    }
+    true
+}
+
+fn entry_blank(e: Entry) -> bool
+    ensures { λ r. ⌜ r ≡ entryBlank e ⌝ }
+{
+    let pictures = e.pictures;
+    if !no_pictures(pictures) {
+        return false;
+    }
+    if !unused(e) {
+        return false;
+    }
+    let film = e.film;
+    name_blank(film)
+}
+
+fn uncoded(s: Session) -> bool
+    ensures { λ r. ⌜ r ≡ zeros (s .copies ∷ s .priority ∷ s .medium ∷ s .destination ∷ s .used ∷ []) ⌝ }
+{
+    if s.copies != 0 {
+        return false;
+    }
+    if s.priority != 0 {
+        return false;
+    }
+    if s.medium != 0 {
+        return false;
+    }
+    if s.destination != 0 {
+        return false;
+    }
+    if s.used != 0 {
+        return false;
+    }
+    true
+}
+
+fn session_blank(s: Session) -> bool
+    ensures { λ r. ⌜ r ≡ sessionBlank s ⌝ }
+{
+    let name = s.name;
+    if !name_blank(name) {
+        return false;
+    }
+    if !uncoded(s) {
+        return false;
+    }
+    let label = s.label;
+    all_zero(&label)
 }
