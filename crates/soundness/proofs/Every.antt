@@ -1,12 +1,13 @@
 -- A test of every element of a list, from its first to its last; and of the first few.
 -- Assumes nothing.
 use Prim.Native.Nat.{ℕ, _+_, _<_, _≤_}
-use mathlib.Core.Path.{_≡_, refl, _∙_}
+use mathlib.Core.Path.{_≡_, refl, ap, _∙_}
 use mathlib.Core.Bool.{Bool, true, false}
 use mathlib.Core.List.{List, [], _∷_}
 use native.Mathlib.Numerals.{add-one}
-use lib.ListN.{length, getD, drop, drop-of-length-le}
-use lib.Seq.{drop-cons}
+use native.Mathlib.Omega.{arith}
+use lib.ListN.{length, getD, take, drop, length-take, drop-of-length-le}
+use lib.Seq.{drop-cons, getD-take}
 use Rattle.choice.specs.Pick.{both}
 use Rattle.rules.specs.Lists.{every}
 use Rattle.rules.specs.Sound.{all}
@@ -27,6 +28,23 @@ module _ {A : Type 0} (test : A → Bool) (xs : List A) (d : A) (i : ℕ) where
 pub every-end : {A : Type 0} (test : A → Bool) (xs : List A) (i : ℕ) → length xs ≤ i → every test (drop i xs) ≡ true
 unfolding every
 every-end test xs i h = rw (drop-of-length-le xs h)
+
+-- the same of the first few
+module _ {A : Type 0} (test : A → Bool) (xs : List A) (d : A) (k i : ℕ) (h : i < length xs) (l : i < k) where
+  short : i < length (take k xs)
+  short = rw (length-take) (omega arith)
+
+  pub few-on : test (getD xs i d) ≡ true → every test (drop i (take k xs)) ≡ every test (drop (i + 1) (take k xs))
+  few-on e = every-on test (take k xs) d i short (ap test (getD-take k xs i d l) ∙ e)
+
+  pub few-not : test (getD xs i d) ≡ false → every test (drop i (take k xs)) ≡ false
+  few-not e = every-not test (take k xs) d i short (ap test (getD-take k xs i d l) ∙ e)
+
+pub few-end : {A : Type 0} (test : A → Bool) (xs : List A) (k i : ℕ) → k ≤ i → every test (drop i (take k xs)) ≡ true
+few-end test xs k i h = every-end test (take k xs) i (rw (length-take) (omega arith))
+
+pub few-all : {A : Type 0} (test : A → Bool) (xs : List A) (k i : ℕ) → length xs ≤ i → every test (drop i (take k xs)) ≡ true
+few-all test xs k i h = every-end test (take k xs) i (rw (length-take) (omega arith))
 
 -- the last of some tests
 pub both-true : (b : Bool) → both b true ≡ b

@@ -1,11 +1,13 @@
 // Soundness: the rules that the records keep, tested.
 use rules::Entry;
+use rules::Film;
 use rules::ImageBox;
 use rules::Layout;
 use rules::Name;
 use rules::Numbers;
 use rules::Opened;
 use rules::Picture;
+use rules::Queue;
 use rules::Session;
 ghost use mathlib.Core.Path.{_≡_};
 ghost use Prim.Native.Nat.{_≤_};
@@ -14,7 +16,7 @@ ghost use lib.Dec.{eqb, ltb};
 ghost use lib.ListN.{length, take, drop};
 ghost use Rattle.uids.specs.Uids.{isUid, beginsWith};
 ghost use Rattle.rules.specs.Lists.{every};
-ghost use Rattle.rules.specs.Sound.{zeros, layoutSound, boxSound, boxBlank, entrySound, entryBlank, sessionBlank, nameBlank, sentSound, madeSound, nameSound, numbersSound, openSound, openedSound};
+ghost use Rattle.rules.specs.Sound.{zeros, layoutSound, boxSound, boxBlank, filmBlank, queueSound, entrySound, entryBlank, sessionBlank, nameBlank, sentSound, madeSound, nameSound, numbersSound, openSound, openedSound};
 
 // Whether all bytes from a place on are zeros.
 fn zeros_from(s: &[u8], from: usize) -> bool
@@ -380,4 +382,123 @@ fn session_blank(s: Session) -> bool
     }
     let label = s.label;
     all_zero(&label)
+}
+
+fn boxes_blank_from(a: [ImageBox; 36], from: usize) -> bool
+    ensures { λ r. ⌜ r ≡ every boxBlank (drop from a) ⌝ }
+{
+    let xs = a;
+    let mut i = from;
+    while i < 36 {
+        let x = xs[i];
+        if !box_blank(x) {
+            return false;
+        }
+        i += 1;
+    }
+    true
+}
+
+fn boxes_sound(count: usize, n: Numbers, a: [ImageBox; 36]) -> bool
+    ensures { λ r. ⌜ r ≡ every (boxSound count n) (take count a) ⌝ }
+{
+    let xs = a;
+    let mut i = 0;
+    while i < 36 {
+        if count <= i {
+            return true;
+        }
+        let x = xs[i];
+        if !box_sound(count, n, x) {
+            return false;
+        }
+        i += 1;
+    }
+    true
+}
+
+fn entries_blank_from(a: [Entry; 16], from: usize) -> bool
+    ensures { λ r. ⌜ r ≡ every entryBlank (drop from a) ⌝ }
+{
+    let xs = a;
+    let mut i = from;
+    while i < 16 {
+        let x = xs[i];
+        if !entry_blank(x) {
+            return false;
+        }
+        i += 1;
+    }
+    true
+}
+
+fn entries_sound(count: usize, n: Numbers, a: [Entry; 16]) -> bool
+    ensures { λ r. ⌜ r ≡ every (entrySound n) (take count a) ⌝ }
+{
+    let xs = a;
+    let mut i = 0;
+    while i < 16 {
+        if count <= i {
+            return true;
+        }
+        let x = xs[i];
+        if !entry_sound(n, x) {
+            return false;
+        }
+        i += 1;
+    }
+    true
+}
+
+fn queue_sound(n: Numbers, q: Queue) -> bool
+    ensures { λ r. ⌜ r ≡ queueSound n q ⌝ }
+{
+    let count = q.count as usize;
+    if 16 < count {
+        return false;
+    }
+    let entries = q.entries;
+    if !entries_sound(count, n, entries) {
+        return false;
+    }
+    entries_blank_from(entries, count)
+}
+
+fn unmarked(f: Film) -> bool
+    ensures { λ r. ⌜ r ≡ zeros (f .layout .lines ∷ f .orientation ∷ f .magnification ∷ f .first .0 ∷ []) ⌝ }
+{
+    let layout = f.layout;
+    if layout.lines != 0 {
+        return false;
+    }
+    if f.orientation != 0 {
+        return false;
+    }
+    if f.magnification != 0 {
+        return false;
+    }
+    let first = f.first;
+    if first.0 != 0 {
+        return false;
+    }
+    true
+}
+
+fn film_blank(f: Film) -> bool
+    ensures { λ r. ⌜ r ≡ filmBlank f ⌝ }
+{
+    let name = f.name;
+    if !name_blank(name) {
+        return false;
+    }
+    if !unmarked(f) {
+        return false;
+    }
+    let layout = f.layout;
+    let counts = layout.counts;
+    if !all_zero(&counts) {
+        return false;
+    }
+    let boxes = f.boxes;
+    boxes_blank_from(boxes, 0)
 }
