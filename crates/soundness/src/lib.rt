@@ -10,12 +10,13 @@ use rules::Picture;
 use rules::Queue;
 use rules::Session;
 ghost use mathlib.Core.Path.{_≡_};
-ghost use Prim.Native.Nat.{_≤_};
+ghost use Prim.Native.Nat.{_<_, _≤_};
 ghost use mathlib.Core.List.{[], _∷_};
 ghost use lib.Dec.{eqb, ltb};
 ghost use lib.ListN.{length, take, drop};
 ghost use Rattle.uids.specs.Uids.{isUid, beginsWith};
-ghost use Rattle.rules.specs.Lists.{every};
+ghost use Rattle.rules.specs.Lists.{every, sum};
+ghost use Rattle.rules.specs.Records.{boxCount};
 ghost use Rattle.rules.specs.Sound.{zeros, layoutSound, boxSound, boxBlank, filmBlank, queueSound, entrySound, entryBlank, sessionBlank, nameBlank, sentSound, madeSound, nameSound, numbersSound, openSound, openedSound};
 
 // Whether all bytes from a place on are zeros.
@@ -501,4 +502,34 @@ fn film_blank(f: Film) -> bool
     }
     let boxes = f.boxes;
     boxes_blank_from(boxes, 0)
+}
+
+fn wide(b: u8) -> u64
+    ensures { λ r. ⌜ (r ≡ b) × (r < 256) ⌝ }
+{
+    b as u64
+}
+
+// The sum of the first n.
+fn sum_of(a: [u8; 6], n: usize) -> u64
+    ensures { λ r. ⌜ (r ≡ sum (take n a)) × (r ≤ 1530) ⌝ }
+{
+    let xs = a;
+    let mut v: u64 = 0;
+    let mut i = 0;
+    while i < 6 {
+        if n <= i {
+            return v;
+        }
+        v = v + wide(xs[i]);
+        i += 1;
+    }
+    v
+}
+
+fn box_count(l: Layout) -> u64
+    ensures { λ r. ⌜ (r ≡ boxCount l) × (r ≤ 1530) ⌝ }
+{
+    let counts = l.counts;
+    sum_of(counts, l.lines as usize)
 }
