@@ -10,14 +10,14 @@ use rules::Picture;
 use rules::Queue;
 use rules::Session;
 ghost use mathlib.Core.Path.{_≡_};
-ghost use Prim.Native.Nat.{_<_, _≤_};
+ghost use Prim.Native.Nat.{_+_, _<_, _≤_};
 ghost use mathlib.Core.List.{[], _∷_};
-ghost use lib.Dec.{eqb, ltb};
+ghost use lib.Dec.{eqb, leb, ltb};
 ghost use lib.ListN.{length, take, drop};
 ghost use Rattle.uids.specs.Uids.{isUid, beginsWith};
 ghost use Rattle.rules.specs.Lists.{every, sum};
-ghost use Rattle.rules.specs.Records.{boxCount};
-ghost use Rattle.rules.specs.Sound.{zeros, layoutSound, boxSound, boxBlank, filmBlank, queueSound, entrySound, entryBlank, sessionBlank, nameBlank, sentSound, madeSound, nameSound, numbersSound, openSound, openedSound};
+ghost use Rattle.rules.specs.Records.{boxCount, boxesOf};
+ghost use Rattle.rules.specs.Sound.{zeros, layoutSound, boxSound, boxBlank, filmBlank, filmSound, queueSound, entrySound, entryBlank, sessionBlank, nameBlank, sentSound, madeSound, nameSound, numbersSound, openSound, openedSound};
 
 // Whether all bytes from a place on are zeros.
 fn zeros_from(s: &[u8], from: usize) -> bool
@@ -532,4 +532,65 @@ fn box_count(l: Layout) -> u64
 {
     let counts = l.counts;
     sum_of(counts, l.lines as usize)
+}
+
+// The film's boxes have their serials below the next.
+fn serials_fit(n: Numbers, f: Film) -> bool
+    ensures { λ r. ⌜ r ≡ leb (f .first .0 + boxCount (f .layout)) (n .serial) ⌝ }
+{
+    let layout = f.layout;
+    let count = box_count(layout);
+    let first = f.first;
+    if n.serial < first.0 as u64 + count {
+        return false;
+    }
+    true
+}
+
+fn boxes_fit(n: Numbers, f: Film) -> bool
+    ensures { λ r. ⌜ r ≡ every (boxSound (boxCount (f .layout)) n) (boxesOf f) ⌝ }
+{
+    let layout = f.layout;
+    let count = box_count(layout) as usize;
+    let boxes = f.boxes;
+    boxes_sound(count, n, boxes)
+}
+
+fn others_blank(f: Film) -> bool
+    ensures { λ r. ⌜ r ≡ every boxBlank (drop (boxCount (f .layout)) (f .boxes)) ⌝ }
+{
+    let layout = f.layout;
+    let count = box_count(layout) as usize;
+    let boxes = f.boxes;
+    boxes_blank_from(boxes, count)
+}
+
+fn film_sound(n: Numbers, f: Film) -> bool
+    ensures { λ r. ⌜ r ≡ filmSound n f ⌝ }
+{
+    let name = f.name;
+    if !name_sound(n, name) {
+        return false;
+    }
+    let layout = f.layout;
+    if !layout_sound(layout) {
+        return false;
+    }
+    if 1 < f.orientation {
+        return false;
+    }
+    if 3 < f.magnification {
+        return false;
+    }
+    let first = f.first;
+    if first.0 < 1 {
+        return false;
+    }
+    if !serials_fit(n, f) {
+        return false;
+    }
+    if !boxes_fit(n, f) {
+        return false;
+    }
+    others_blank(f)
 }
