@@ -124,7 +124,7 @@ fn name_sound(n: Numbers, name: Name) -> bool
     made_sound(n, name)
 }
 
-fn numbers_sound(n: Numbers) -> bool
+pub fn numbers_sound(n: Numbers) -> bool
     ensures { λ r. ⌜ r ≡ numbersSound n ⌝ }
 {
     let used = n.used as usize;
@@ -177,7 +177,7 @@ fn open_sound(o: Opened) -> bool
     true
 }
 
-fn opened_sound(o: Opened) -> bool
+pub fn opened_sound(o: Opened) -> bool
     ensures { λ r. ⌜ r ≡ openedSound o ⌝ }
 {
     if 1 < o.live {
@@ -371,7 +371,7 @@ fn uncoded(s: Session) -> bool
     true
 }
 
-fn session_blank(s: Session) -> bool
+pub fn session_blank(s: Session) -> bool
     ensures { λ r. ⌜ r ≡ sessionBlank s ⌝ }
 {
     let name = s.name;
@@ -451,7 +451,7 @@ fn entries_sound(count: usize, n: Numbers, a: [Entry; 16]) -> bool
     true
 }
 
-fn queue_sound(n: Numbers, q: Queue) -> bool
+pub fn queue_sound(n: Numbers, q: Queue) -> bool
     ensures { λ r. ⌜ r ≡ queueSound n q ⌝ }
 {
     let count = q.count as usize;
@@ -485,7 +485,7 @@ fn unmarked(f: Film) -> bool
     true
 }
 
-fn film_blank(f: Film) -> bool
+pub fn film_blank(f: Film) -> bool
     ensures { λ r. ⌜ r ≡ filmBlank f ⌝ }
 {
     let name = f.name;
@@ -565,7 +565,7 @@ fn others_blank(f: Film) -> bool
     boxes_blank_from(boxes, count)
 }
 
-fn film_sound(n: Numbers, f: Film) -> bool
+pub fn film_sound(n: Numbers, f: Film) -> bool
     ensures { λ r. ⌜ r ≡ filmSound n f ⌝ }
 {
     let name = f.name;
