@@ -10,7 +10,7 @@ use Rattle.strike.specs.Machine.{headerWrong, fragmentIn, skips, reads, gathers
 use Rattle.strike.specs.Machine as machine
 use Rattle.strike.specs.Machine.{idle, Answer}
 use Rattle.strike.specs.Messages.{answers}
-use Rattle.strike.proofs.Fakes.{dropsAll, storesNone, storesFirst}
+use Rattle.strike.proofs.Fakes.{dropsAll, failsAll, oneReply, storesNone, storesFirst}
 use Rattle.rules.specs.Responses.{Reply}
 use Rattle.rules.specs.Calls.{Handed, printing, check, started, opened, closed, pictureBytes, entryBytes, taken, reading}
 use Rattle.rules.proofs.Stage.{nothingLive}
@@ -39,15 +39,6 @@ echo7 =
     ∷ 0x00 ∷ 0x00 ∷ 0x00 ∷ 0x00 ∷ 0x02 ∷ 0x00 ∷ 0x12 ∷ 0x00 ∷ 0x00 ∷ 0x00 ∷ 0x31 ∷ 0x2E ∷ 0x32 ∷ 0x2E ∷ 0x38 ∷ 0x34
     ∷ 0x30 ∷ 0x2E ∷ 0x31 ∷ 0x30 ∷ 0x30 ∷ 0x30 ∷ 0x38 ∷ 0x2E ∷ 0x31 ∷ 0x2E ∷ 0x31 ∷ 0x00 ∷ 0x00 ∷ 0x00 ∷ 0x00 ∷ 0x01
     ∷ 0x02 ∷ 0x00 ∷ 0x00 ∷ 0x00 ∷ 0x30 ∷ 0x00 ∷ 0x00 ∷ 0x00 ∷ 0x10 ∷ 0x01 ∷ 0x02 ∷ 0x00 ∷ 0x00 ∷ 0x00 ∷ 0x07 ∷ 0x00
-    ∷ 0x00 ∷ 0x00 ∷ 0x00 ∷ 0x08 ∷ 0x02 ∷ 0x00 ∷ 0x00 ∷ 0x00 ∷ 0x01 ∷ 0x01 ∷ []
-
--- C-ECHO, number 8
-abbrev echo8 : List ℕ
-echo8 =
-    0x00 ∷ 0x00 ∷ 0x00 ∷ 0x46 ∷ 0x01 ∷ 0x03 ∷ 0x00 ∷ 0x00 ∷ 0x00 ∷ 0x00 ∷ 0x04 ∷ 0x00 ∷ 0x00 ∷ 0x00 ∷ 0x38 ∷ 0x00
-    ∷ 0x00 ∷ 0x00 ∷ 0x00 ∷ 0x00 ∷ 0x02 ∷ 0x00 ∷ 0x12 ∷ 0x00 ∷ 0x00 ∷ 0x00 ∷ 0x31 ∷ 0x2E ∷ 0x32 ∷ 0x2E ∷ 0x38 ∷ 0x34
-    ∷ 0x30 ∷ 0x2E ∷ 0x31 ∷ 0x30 ∷ 0x30 ∷ 0x30 ∷ 0x38 ∷ 0x2E ∷ 0x31 ∷ 0x2E ∷ 0x31 ∷ 0x00 ∷ 0x00 ∷ 0x00 ∷ 0x00 ∷ 0x01
-    ∷ 0x02 ∷ 0x00 ∷ 0x00 ∷ 0x00 ∷ 0x30 ∷ 0x00 ∷ 0x00 ∷ 0x00 ∷ 0x10 ∷ 0x01 ∷ 0x02 ∷ 0x00 ∷ 0x00 ∷ 0x00 ∷ 0x08 ∷ 0x00
     ∷ 0x00 ∷ 0x00 ∷ 0x00 ∷ 0x08 ∷ 0x02 ∷ 0x00 ∷ 0x00 ∷ 0x00 ∷ 0x01 ∷ 0x01 ∷ []
 
 -- N-CREATE of session 1.2.3
@@ -104,6 +95,24 @@ none fragments = map shown (answers (storesNone printing) (record { core = (noth
 
 abbrev first : List (List ℕ) → List Shown
 first fragments = map shown (answers (storesFirst printing) (record { core = (nothingLive, false); input = idle }) (feeds fragments))
+
+-- one that fails everything, and one that has a single fixed reply: whatever the reply is
+abbrev fails : Reply → List (List ℕ) → List Shown
+fails r fragments = map shown (answers (failsAll printing r) (record { core = (nothingLive, false); input = idle }) (feeds fragments))
+
+abbrev fixed : Reply → List (List ℕ) → List Shown
+fixed r fragments = map shown (answers (oneReply printing r) (record { core = (nothingLive, false); input = idle }) (feeds fragments))
+
+-- no response 0, a success 1, a failure 2
+abbrev kind : Shown → ℕ
+kind noResponse = 0
+kind (succeededWith n) = 1
+kind (failedWith n) = 2
+
+pub replies-told-apart : (r : Reply) → (map kind (book (echo7 ∷ [])) ≡ 1 ∷ []) × (map kind (fails r (echo7 ∷ [])) ≡ 2 ∷ [])
+    × (map kind (book (deletes ∷ [])) ≡ 2 ∷ []) × (map kind (fixed r (deletes ∷ [])) ≡ 1 ∷ [])
+unfolding numberAt bigNumberAt octets same digits component components isUid unpadded beginsWith lastDigits decimal made namedVr formOf implicitVr differs tagAt sizeAt vrAt lengthAt vrWrong lengthHead headAt itemHeadAt closeAt elementsFrom itemsOf findAt itemsAt walk trail listStep listFrom itemWith itemStep itemsFrom elementAt listAt itemAt dataSet padded tagOctets vrOctets headerSize plain header element written writtenItems sessionCreated newFilm filmCreated sessionSet filmSet boxSet sessionDeleted filmDeleted pictureOn entryOf entriesFor ticketAfter printed filledBoxes classOf generalRules createRules targetRules createPlan setPlan actionPlan deletePlan planOf decideRequest decide chars every any placeOf apart sum from bytesOf uidAt groupZero lengthTold wellFormed hasData requestIn understood rootOf uidOf boxCount boxesOf filmsOf shelved entriesOf queued boxUids named responseElements responseTree reply boxItems filmTree withoutLeading withoutTrailing trimmed blank withoutPlus decimalValue countIn codeIn labelAllowed standard countsIn sessionStandings sessionWith optionalFilm filmCreateStandings filmSetStandings filmWith layoutIn imageStandings imageIn boxStandings boxWith headerWrong fragmentIn skips reads gathers overflows stores collect laidBy answered carriedOut fed checked step laidIf messageAfter check started opened closed pictureBytes entryBytes taken reading answers
+replies-told-apart r = (refl, refl, refl, refl)
 
 -- one that drops everything, and one that responds rightly but stores nothing, at once or after the first message
 pub told-apart : (book (echo7 ∷ []) ≡ succeededWith 0x0000 ∷ []) × (drops (echo7 ∷ []) ≡ noResponse ∷ [])
