@@ -1,3 +1,4 @@
 -- The laws of choices.
+pub mod Broken
 pub mod Picks
 pub mod Rows
