@@ -1,0 +1,2 @@
+-- The laws of standings.
+pub mod Laws
