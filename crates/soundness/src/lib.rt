@@ -9,15 +9,18 @@ use rules::Opened;
 use rules::Picture;
 use rules::Queue;
 use rules::Session;
+use rules::Shelf;
 ghost use mathlib.Core.Path.{_≡_};
 ghost use Prim.Native.Nat.{_+_, _<_, _≤_};
 ghost use mathlib.Core.List.{[], _∷_};
 ghost use lib.Dec.{eqb, leb, ltb};
 ghost use lib.ListN.{length, take, drop};
+ghost use Rattle.choice.specs.Pick.{pick, not};
 ghost use Rattle.uids.specs.Uids.{isUid, beginsWith};
+ghost use Rattle.rules.specs.Bounds.{mostFilms};
 ghost use Rattle.rules.specs.Lists.{every, sum};
 ghost use Rattle.rules.specs.Records.{boxCount, boxesOf};
-ghost use Rattle.rules.specs.Sound.{zeros, layoutSound, boxSound, boxBlank, filmBlank, filmSound, queueSound, entrySound, entryBlank, sessionBlank, nameBlank, sentSound, madeSound, nameSound, numbersSound, openSound, openedSound};
+ghost use Rattle.rules.specs.Sound.{zeros, layoutSound, boxSound, boxBlank, filmBlank, filmSound, queueSound, entrySound, entryBlank, sessionBlank, nameBlank, sentSound, madeSound, nameSound, numbersSound, openSound, openedSound, shelfSound};
 
 // Whether all bytes from a place on are zeros.
 fn zeros_from(s: &[u8], from: usize) -> bool
@@ -593,4 +596,61 @@ pub fn film_sound(n: Numbers, f: Film) -> bool
         return false;
     }
     others_blank(f)
+}
+
+fn films_blank_from(a: [Film; 8], from: usize) -> bool
+    ensures { λ r. ⌜ r ≡ every filmBlank (drop from a) ⌝ }
+{
+    let xs = a;
+    let mut i = from;
+    while i < 8 {
+        let x = xs[i];
+        if !film_blank(x) {
+            return false;
+        }
+        i += 1;
+    }
+    true
+}
+
+fn films_sound(count: usize, n: Numbers, a: [Film; 8]) -> bool
+    ensures { λ r. ⌜ r ≡ every (filmSound n) (take count a) ⌝ }
+{
+    let xs = a;
+    let mut i = 0;
+    while i < 8 {
+        if count <= i {
+            return true;
+        }
+        let x = xs[i];
+        if !film_sound(n, x) {
+            return false;
+        }
+        i += 1;
+    }
+    true
+}
+
+// How many films there may be: none without a session.
+fn films_allowed(live: u8) -> usize
+    ensures { λ r. ⌜ r ≡ pick (not (eqb live 0)) mostFilms 0 ⌝ }
+{
+    if live == 0 {
+        return 0;
+    }
+    8
+}
+
+pub fn shelf_sound(n: Numbers, s: Session, shelf: Shelf) -> bool
+    ensures { λ r. ⌜ r ≡ shelfSound n s shelf ⌝ }
+{
+    let count = shelf.count as usize;
+    if films_allowed(s.live) < count {
+        return false;
+    }
+    let films = shelf.films;
+    if !films_sound(count, n, films) {
+        return false;
+    }
+    films_blank_from(films, count)
 }
