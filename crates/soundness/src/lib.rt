@@ -16,11 +16,13 @@ ghost use mathlib.Core.List.{[], _∷_};
 ghost use lib.Dec.{eqb, leb, ltb};
 ghost use lib.ListN.{length, take, drop};
 ghost use Rattle.choice.specs.Pick.{pick, not};
+ghost use Rattle.octets.specs.Octets.{same};
 ghost use Rattle.uids.specs.Uids.{isUid, beginsWith};
 ghost use Rattle.rules.specs.Bounds.{mostFilms};
 ghost use Rattle.rules.specs.Lists.{every, sum};
 ghost use Rattle.rules.specs.Records.{boxCount, boxesOf};
-ghost use Rattle.rules.specs.Sound.{zeros, layoutSound, boxSound, boxBlank, filmBlank, filmSound, queueSound, entrySound, entryBlank, sessionBlank, nameBlank, sentSound, madeSound, nameSound, numbersSound, openSound, openedSound, shelfSound};
+ghost use Rattle.rules.specs.Values.{trimmed, labelAllowed};
+ghost use Rattle.rules.specs.Sound.{all, between, zeros, layoutSound, boxSound, boxBlank, filmBlank, filmSound, queueSound, entrySound, entryBlank, sessionBlank, nameBlank, sentSound, madeSound, nameSound, numbersSound, openSound, openedSound, sessionSound, shelfSound};
 
 // Whether all bytes from a place on are zeros.
 fn zeros_from(s: &[u8], from: usize) -> bool
@@ -310,6 +312,18 @@ fn no_pictures(ps: [Picture; 36]) -> bool
     true
 }
 
+fn copies_allowed(copies: u8) -> bool
+    ensures { λ r. ⌜ r ≡ between 1 99 copies ⌝ }
+{
+    if copies < 1 {
+        return false;
+    }
+    if 99 < copies {
+        return false;
+    }
+    true
+}
+
 fn entry_sound(n: Numbers, e: Entry) -> bool
     ensures { λ r. ⌜ r ≡ entrySound n e ⌝ }
 {
@@ -317,10 +331,7 @@ fn entry_sound(n: Numbers, e: Entry) -> bool
     if !pictures_below(pictures, n.picture) {
         return false;
     }
-    if e.copies < 1 {
-        return false;
-    }
-    if 99 < e.copies {
+    if !copies_allowed(e.copies) {
         return false;
     }
     let film = e.film;
@@ -386,6 +397,66 @@ pub fn session_blank(s: Session) -> bool
     }
     let label = s.label;
     all_zero(&label)
+}
+
+// Whether the first n bytes are a label.
+fn begins_label(s: &[u8], n: usize) -> bool
+    ensures { λ r. ⌜ r ≡ labelAllowed (take n (now (s .entry))) ⌝ }
+{
+    let m = within(s, n);
+    values::label_allowed(&s[0..m])
+}
+
+// Whether no space stands before or behind a text.
+fn is_trimmed(s: &[u8]) -> bool
+    ensures { λ r. ⌜ r ≡ same (trimmed (now (s .entry))) (now (s .entry)) ⌝ }
+{
+    octets::same_bytes(values::trimmed(s), s)
+}
+
+fn begins_trimmed(s: &[u8], n: usize) -> bool
+    ensures { λ r. ⌜ r ≡ same (trimmed (take n (now (s .entry)))) (take n (now (s .entry))) ⌝ }
+{
+    let m = within(s, n);
+    is_trimmed(&s[0..m])
+}
+
+fn label_sound(label: [u8; 64], used: usize) -> bool
+    ensures { λ r. ⌜ r ≡ all (leb used 64 ∷ labelAllowed (take used label) ∷ same (trimmed (take used label)) (take used label) ∷ zeros (drop used label) ∷ []) ⌝ }
+{
+    if 64 < used {
+        return false;
+    }
+    if !begins_label(&label, used) {
+        return false;
+    }
+    if !begins_trimmed(&label, used) {
+        return false;
+    }
+    zeros_from(&label, used)
+}
+
+pub fn session_sound(n: Numbers, s: Session) -> bool
+    ensures { λ r. ⌜ r ≡ sessionSound n s ⌝ }
+{
+    let name = s.name;
+    if !name_sound(n, name) {
+        return false;
+    }
+    if !copies_allowed(s.copies) {
+        return false;
+    }
+    if 2 < s.priority {
+        return false;
+    }
+    if 2 < s.medium {
+        return false;
+    }
+    if 1 < s.destination {
+        return false;
+    }
+    let label = s.label;
+    label_sound(label, s.used as usize)
 }
 
 fn boxes_blank_from(a: [ImageBox; 36], from: usize) -> bool

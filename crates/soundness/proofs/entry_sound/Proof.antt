@@ -1,26 +1,22 @@
-use borrow.Author.Tests.{le-leb, lt-leb, not-true, not-false}
-use Rattle.rules.specs.Lists.{every}
+use mathlib.Core.Path.{sym, _∙_}
+use borrow.Author.Tests.{not-true, not-false}
 use Rattle.rules.specs.Sound.{entrySound}
-use Rattle.soundness.proofs.Every.{both-true}
+use Rattle.soundness.proofs.Every.{all-next, all-one, all-stop}
 use borrow.Author.Needs.{needs}
 use Rattle.soundness.proofs.entry_sound.Statement.{statement}
 use Rattle.soundness.proofs.entry_sound.Tie as tie
 
 returns : tie.Need-returns
-unfolding entrySound every
-returns c = simp (← (c .before .pictures-below .ensures), not-true (c .before .pictures-below .result) (c .if1 .taken), both-true)
+unfolding entrySound
+returns c = sym (all-stop _ _ (sym (c .before .pictures-below .ensures) ∙ not-true (c .before .pictures-below .result) (c .if1 .taken)))
 
 returns-2 : tie.Need-returns-2
-unfolding entrySound every
-returns-2 c = simp (← (c .before .before .before .pictures-below .ensures), not-false (c .before .before .before .pictures-below .result) (c .before .before .if1 .left), lt-leb _ _ (c .if2 .taken), both-true)
+unfolding entrySound
+returns-2 c = sym (all-next _ _ (sym (c .before .before .before .pictures-below .ensures) ∙ not-false (c .before .before .before .pictures-below .result) (c .before .before .if1 .left)) ∙ all-stop _ _ (sym (c .before .copies-allowed .ensures) ∙ not-true (c .before .copies-allowed .result) (c .if2 .taken)))
 
 returns-3 : tie.Need-returns-3
-unfolding entrySound every
-returns-3 c = simp (← (c .before .before .before .before .before .pictures-below .ensures), not-false (c .before .before .before .before .before .pictures-below .result) (c .before .before .before .before .if1 .left), le-leb _ _ (c .before .before .if2 .left), lt-leb _ _ (c .if3 .taken), both-true)
-
-returns-4 : tie.Need-returns-4
-unfolding entrySound every
-returns-4 c = simp (← (c .before .before .before .before .before .before .before .pictures-below .ensures), not-false (c .before .before .before .before .before .before .before .pictures-below .result) (c .before .before .before .before .before .before .if1 .left), le-leb _ _ (c .before .before .before .before .if2 .left), le-leb _ _ (c .before .before .if3 .left), ← (c .name-sound .ensures), both-true)
+unfolding entrySound
+returns-3 c = c .name-sound .ensures ∙ sym (all-next _ _ (sym (c .before .before .before .before .before .pictures-below .ensures) ∙ not-false (c .before .before .before .before .before .pictures-below .result) (c .before .before .before .before .if1 .left)) ∙ all-next _ _ (sym (c .before .before .before .copies-allowed .ensures) ∙ not-false (c .before .before .before .copies-allowed .result) (c .before .before .if2 .left)) ∙ all-one _)
 
 pub entry-sound-spec : {M : Type 1} → statement M
 entry-sound-spec =
@@ -28,7 +24,7 @@ entry-sound-spec =
     (tie.spec
     (λ c κs. search needs)
     returns
-    returns-2
-    returns-3
     (λ c κs. search needs)
-    returns-4)
+    returns-2
+    (λ c κs. search needs)
+    returns-3)
