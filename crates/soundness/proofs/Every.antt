@@ -51,6 +51,10 @@ pub both-true : (b : Bool) → both b true ≡ b
 both-true true = refl
 both-true false = refl
 
+pub both-false : (b : Bool) → both b false ≡ false
+both-false true = refl
+both-false false = refl
+
 -- of some tests the first fails, or holds, or is the only one
 pub all-stop : (b : Bool) (bs : List Bool) → b ≡ false → all (b ∷ bs) ≡ false
 unfolding every

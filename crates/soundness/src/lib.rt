@@ -1,7 +1,9 @@
 // Soundness: the rules that the records keep, tested.
+use rules::Command;
 use rules::Entry;
 use rules::Film;
 use rules::ImageBox;
+use rules::Input;
 use rules::Layout;
 use rules::Name;
 use rules::Numbers;
@@ -22,7 +24,8 @@ ghost use Rattle.rules.specs.Bounds.{mostFilms};
 ghost use Rattle.rules.specs.Lists.{every, sum};
 ghost use Rattle.rules.specs.Records.{boxCount, boxesOf};
 ghost use Rattle.rules.specs.Values.{trimmed, labelAllowed};
-ghost use Rattle.rules.specs.Sound.{all, between, zeros, layoutSound, boxSound, boxBlank, filmBlank, filmSound, queueSound, entrySound, entryBlank, sessionBlank, nameBlank, sentSound, madeSound, nameSound, numbersSound, openSound, openedSound, sessionSound, shelfSound};
+ghost use Rattle.rules.specs.Commands.{understood};
+ghost use Rattle.rules.specs.Sound.{all, between, zeros, layoutSound, boxSound, boxBlank, filmBlank, filmSound, queueSound, entrySound, entryBlank, sessionBlank, nameBlank, sentSound, madeSound, nameSound, numbersSound, openSound, openedSound, sessionSound, shelfSound, readable, phaseSound, inputSound};
 
 // Whether all bytes from a place on are zeros.
 fn zeros_from(s: &[u8], from: usize) -> bool
@@ -724,4 +727,85 @@ pub fn shelf_sound(n: Numbers, s: Session, shelf: Shelf) -> bool
         return false;
     }
     films_blank_from(films, count)
+}
+
+fn is_readable(command: Command) -> bool
+    ensures { λ r. ⌜ r ≡ readable command ⌝ }
+{
+    match command {
+        Command::Unreadable => false,
+        Command::Unknown {
+            message: _,
+            field: _,
+        } => true,
+        Command::Known(_) => true,
+    }
+}
+
+// Whether the first n bytes are a readable command.
+fn begins_readable(s: &[u8], n: usize) -> bool
+    ensures { λ r. ⌜ r ≡ readable (understood (take n (now (s .entry)))) ⌝ }
+{
+    let m = within(s, n);
+    is_readable(commands::understood(&s[0..m]))
+}
+
+// Whether there are no bytes of a command, and none of data.
+fn holds_nothing(used: u16, got: u32) -> bool
+    ensures { λ r. ⌜ r ≡ zeros (used ∷ got ∷ []) ⌝ }
+{
+    if used != 0 {
+        return false;
+    }
+    got == 0
+}
+
+// The collecting state: in command, in data, skipping data, or one that holds nothing.
+fn phase_sound(room: u32, i: Input) -> bool
+    ensures { λ r. ⌜ r ≡ phaseSound room i ⌝ }
+{
+    if i.phase == 1 {
+        return i.got == 0;
+    }
+    let command = i.command;
+    if i.phase == 3 {
+        if room < i.got {
+            return false;
+        }
+        return begins_readable(&command, i.used as usize);
+    }
+    if i.phase == 4 {
+        if i.got != 0 {
+            return false;
+        }
+        return begins_readable(&command, i.used as usize);
+    }
+    holds_nothing(i.used, i.got)
+}
+
+// The last collecting state there may be: idle while not open.
+fn last_phase(live: u8) -> u8
+    ensures { λ r. ⌜ r ≡ pick (eqb live 0) 0 4 ⌝ }
+{
+    if live == 0 {
+        return 0;
+    }
+    4
+}
+
+pub fn input_sound(o: Opened, i: Input) -> bool
+    ensures { λ r. ⌜ r ≡ inputSound o i ⌝ }
+{
+    if last_phase(o.live) < i.phase {
+        return false;
+    }
+    let used = i.used as usize;
+    if 1024 < used {
+        return false;
+    }
+    let command = i.command;
+    if !zeros_from(&command, used) {
+        return false;
+    }
+    phase_sound(o.room, i)
 }
