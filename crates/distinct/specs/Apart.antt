@@ -1,0 +1,33 @@
+-- "UIDs differ", film by film: serials and names that no film has, and films that differ from one another.
+use Prim.Native.Nat.{ℕ}
+use mathlib.Core.Bool.{Bool}
+use mathlib.Core.List.{List, map}
+use Rattle.choice.specs.Pick.{not}
+use Rattle.rules.specs.declared.Name.{Name}
+use Rattle.rules.specs.declared.Film.{Film}
+use Rattle.rules.specs.Lists.{every, apart}
+use Rattle.rules.specs.Records.{boxCount}
+use Rattle.rules.specs.Sound.{Serials, overlap, serialsOf, sentText, sameText}
+
+abbrev pub serials : ℕ → ℕ → Serials
+serials first count = record { from = first; count = count }
+
+abbrev pub boxSerials : Film → Serials
+boxSerials f = serials (f .first .0) (boxCount (f .layout))
+
+-- the films have none of these serials
+unfoldable pub serialsFree : Serials → List Film → Bool
+serialsFree s films = every (λ t. not (overlap s t)) (serialsOf films)
+
+unfoldable pub serialsApart : List Film → Bool
+serialsApart films = apart overlap (serialsOf films)
+
+abbrev pub filmText : Film → List ℕ
+filmText f = sentText (f .name)
+
+-- no film has the text of this name
+unfoldable pub textFree : Name → List Film → Bool
+textFree name films = every (λ t. not (sameText (sentText name) t)) (map filmText films)
+
+unfoldable pub textsApart : List Film → Bool
+textsApart films = apart sameText (map filmText films)
