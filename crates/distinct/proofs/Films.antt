@@ -9,33 +9,24 @@ use Rattle.rules.specs.declared.Session.{Session}
 use Rattle.rules.specs.declared.Film.{Film}
 use Rattle.rules.specs.Lists.{every, apart}
 use Rattle.rules.specs.Sound.{Serials, overlap, ownSerial, serialsOf, sentText, sameText, uidsApart}
-use Rattle.distinct.specs.Apart.{boxSerials, serialsFree, serialsApart, filmText, textFree, textsApart}
+use Rattle.distinct.specs.Apart.{boxSerials, freeOfFilm, serialsFree, filmApart, serialsApart, filmText, textFree, textsApart}
 use Rattle.distinct.proofs.Steps.{Stepwise}
 
 both-assoc : (a b c : Bool) → both a (both b c) ≡ both (both a b) c
 both-assoc true b c = refl
 both-assoc false b c = refl
 
--- a film and its boxes have none of these serials
-abbrev pub freeOfFilm : Serials → Film → Bool
-freeOfFilm s f = both (not (overlap s (ownSerial (f .name)))) (not (overlap s (boxSerials f)))
+regroup : (a b c d : Bool) → both (both a b) (both c d) ≡ both (both a (both b c)) d
+regroup true b c d = both-assoc b c d
+regroup false b c d = refl
 
 pub serials-free : (s : Serials) → Stepwise (serialsFree s) (λ f films. freeOfFilm s f)
 unfolding serialsFree serialsOf every
 serials-free s = record { none = refl; more = λ f films. both-assoc (not (overlap s (ownSerial (f .name)))) (not (overlap s (boxSerials f))) (serialsFree s films) }
 
--- a film's serials differ from one another and from those of these films
-abbrev pub filmApart : Film → List Film → Bool
-filmApart f films = both (not (overlap (ownSerial (f .name)) (boxSerials f))) (both (serialsFree (ownSerial (f .name)) films) (serialsFree (boxSerials f) films))
-
-three : (a b c d : Bool) → both (both a b) (both c d) ≡ both (both a (both b c)) d
-three true true c d = refl
-three true false c d = refl
-three false b c d = refl
-
 pub serials-apart : Stepwise serialsApart filmApart
 unfolding serialsApart serialsFree serialsOf apart every
-serials-apart = record { none = refl; more = λ f films. three (not (overlap (ownSerial (f .name)) (boxSerials f))) (serialsFree (ownSerial (f .name)) films) (serialsFree (boxSerials f) films) (serialsApart films) }
+serials-apart = record { none = refl; more = λ f films. regroup (not (overlap (ownSerial (f .name)) (boxSerials f))) (serialsFree (ownSerial (f .name)) films) (serialsFree (boxSerials f) films) (serialsApart films) }
 
 pub text-free : (name : Name) → Stepwise (textFree name) (λ f films. not (sameText (sentText name) (filmText f)))
 unfolding textFree every

@@ -1,5 +1,5 @@
--- What one turn of each loop does.
+-- What one turn of each loop does, film by film, and the first bytes of a text.
 mod Parts
-mod Steps
+pub mod Steps
 mod Sums
 mod Films

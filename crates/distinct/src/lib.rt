@@ -8,11 +8,11 @@ ghost use mathlib.Core.Path.{_≡_};
 ghost use Prim.Native.Nat.{_<_, _≤_};
 ghost use lib.Dec.{eqb};
 ghost use lib.ListN.{length, take, drop};
-ghost use Rattle.choice.specs.Pick.{pick, both, not};
+ghost use Rattle.choice.specs.Pick.{pick};
 ghost use Rattle.rules.specs.Lists.{sum};
 ghost use Rattle.rules.specs.Records.{boxCount, filmsOf};
-ghost use Rattle.rules.specs.Sound.{overlap, ownSerial, sentText, sameText, uidsApart};
-ghost use Rattle.distinct.specs.Apart.{serials, boxSerials, serialsFree, serialsApart, textFree, textsApart};
+ghost use Rattle.rules.specs.Sound.{overlap, sentText, sameText, uidsApart};
+ghost use Rattle.distinct.specs.Apart.{serials, freeOfFilm, serialsFree, filmApart, serialsApart, textFree, textsApart};
 
 fn wide(b: u8) -> u64
     ensures { λ r. ⌜ (r ≡ b) × (r < 256) ⌝ }
@@ -37,6 +37,7 @@ fn sum_of(a: [u8; 6], n: usize) -> u64
     v
 }
 
+// How many boxes a film of this layout has.
 pub fn box_count(l: Layout) -> u64
     ensures { λ r. ⌜ (r ≡ boxCount l) × (r ≤ 1530) ⌝ }
 {
@@ -58,6 +59,7 @@ fn films_within(films: [Film; 8], n: usize) -> usize
     if 8 < n { 8 } else { n }
 }
 
+// Whether some serials are among others.
 fn overlapping(first: u64, count: u64, other: u64, others: u64) -> bool
     requires { ⌜ (first < 4294967296) × (count ≤ 1530) × (other < 4294967296) × (others ≤ 1530) ⌝ }
     ensures { λ r. ⌜ r ≡ overlap (serials first count) (serials other others) ⌝ }
@@ -71,7 +73,7 @@ fn overlapping(first: u64, count: u64, other: u64, others: u64) -> bool
     true
 }
 
-// A sent UID has no serial.
+// How many serials a name has: a sent one has none.
 fn own_count(made: u64) -> u64
     ensures { λ r. ⌜ (r ≡ pick (eqb made 0) 0 1) × (r ≤ 1530) ⌝ }
 {
@@ -81,7 +83,7 @@ fn own_count(made: u64) -> u64
 // Whether the film and its boxes have none of these serials.
 fn free_of_film(first: u64, count: u64, film: Film) -> bool
     requires { ⌜ (first < 4294967296) × (count ≤ 1530) ⌝ }
-    ensures { λ r. ⌜ r ≡ both (not (overlap (serials first count) (ownSerial (film .name)))) (not (overlap (serials first count) (boxSerials film))) ⌝ }
+    ensures { λ r. ⌜ r ≡ freeOfFilm (serials first count) film ⌝ }
 {
     let name = film.name;
     let made = name.made;
@@ -97,7 +99,7 @@ fn free_of_film(first: u64, count: u64, film: Film) -> bool
     true
 }
 
-// The same of the films from i to n.
+// The same of the films from a place on.
 fn serials_free(first: u64, count: u64, films: [Film; 8], from: usize, n: usize) -> bool
     requires { ⌜ (first < 4294967296) × (count ≤ 1530) × (n ≤ 8) ⌝ }
     ensures { λ r. ⌜ r ≡ serialsFree (serials first count) (drop from (take n films)) ⌝ }
@@ -114,10 +116,10 @@ fn serials_free(first: u64, count: u64, films: [Film; 8], from: usize, n: usize)
     true
 }
 
-// The serials of a film and those of the films from a place on.
+// Whether a film's serials differ from one another and from those of the films from a place on.
 fn film_serials_apart(film: Film, films: [Film; 8], from: usize, n: usize) -> bool
     requires { ⌜ n ≤ 8 ⌝ }
-    ensures { λ r. ⌜ r ≡ both (not (overlap (ownSerial (film .name)) (boxSerials film))) (both (serialsFree (ownSerial (film .name)) (drop from (take n films))) (serialsFree (boxSerials film) (drop from (take n films)))) ⌝ }
+    ensures { λ r. ⌜ r ≡ filmApart film (drop from (take n films)) ⌝ }
 {
     let name = film.name;
     let made = name.made;
@@ -152,6 +154,7 @@ fn films_serials_apart(films: [Film; 8], n: usize) -> bool
     true
 }
 
+// Whether two names were sent with the same text.
 fn same_text(a: Name, b: Name) -> bool
     ensures { λ r. ⌜ r ≡ sameText (sentText a) (sentText b) ⌝ }
 {
