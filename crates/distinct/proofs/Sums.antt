@@ -17,13 +17,15 @@ module _ (xs : List ℕ) (k i : ℕ) where
   unfolding sum
   sum-on h l = rw (add-one i, drop-cons (take k xs) i 0 (short h l), getD-take k xs i 0 l)
 
-  pub sum-end : k ≤ i → sum (drop i (take k xs)) ≡ 0
+  past : length (take k xs) ≤ i → sum (drop i (take k xs)) ≡ 0
   unfolding sum
-  sum-end h = let e : length (take k xs) ≤ i = rw (length-take) (omega arith) in rw (drop-of-length-le (take k xs) e)
+  past h = rw (drop-of-length-le (take k xs) h)
+
+  pub sum-end : k ≤ i → sum (drop i (take k xs)) ≡ 0
+  sum-end h = past (rw (length-take) (omega arith))
 
   pub sum-all : length xs ≤ i → sum (drop i (take k xs)) ≡ 0
-  unfolding sum
-  sum-all h = let e : length (take k xs) ≤ i = rw (length-take) (omega arith) in rw (drop-of-length-le (take k xs) e)
+  sum-all h = past (rw (length-take) (omega arith))
 
 -- one number more
 pub sum-turn : (xs : List ℕ) (k i v x : ℕ) → i < length xs → i < k → x ≡ getD xs i 0 → sum (take k xs) ≡ v + sum (drop i (take k xs))
