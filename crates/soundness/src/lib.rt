@@ -1,5 +1,6 @@
 // Soundness: the rules that the records keep, tested.
 use rules::Command;
+use rules::Core;
 use rules::Entry;
 use rules::Film;
 use rules::ImageBox;
@@ -12,6 +13,7 @@ use rules::Picture;
 use rules::Queue;
 use rules::Session;
 use rules::Shelf;
+use rules::State;
 ghost use mathlib.Core.Path.{_≡_};
 ghost use Prim.Native.Nat.{_+_, _<_, _≤_};
 ghost use mathlib.Core.List.{[], _∷_};
@@ -22,10 +24,10 @@ ghost use Rattle.octets.specs.Octets.{same};
 ghost use Rattle.uids.specs.Uids.{isUid, beginsWith};
 ghost use Rattle.rules.specs.Bounds.{mostFilms};
 ghost use Rattle.rules.specs.Lists.{every, sum};
-ghost use Rattle.rules.specs.Records.{boxCount, boxesOf};
+ghost use Rattle.rules.specs.Records.{boxCount, boxesOf, isLive};
 ghost use Rattle.rules.specs.Values.{trimmed, labelAllowed};
 ghost use Rattle.rules.specs.Commands.{understood};
-ghost use Rattle.rules.specs.Sound.{all, between, zeros, layoutSound, boxSound, boxBlank, filmBlank, filmSound, queueSound, entrySound, entryBlank, sessionBlank, nameBlank, sentSound, madeSound, nameSound, numbersSound, openSound, openedSound, sessionSound, shelfSound, readable, phaseSound, inputSound};
+ghost use Rattle.rules.specs.Sound.{all, between, zeros, layoutSound, boxSound, boxBlank, filmBlank, filmSound, queueSound, entrySound, entryBlank, sessionBlank, nameBlank, sentSound, madeSound, nameSound, numbersSound, openSound, openedSound, sessionSound, shelfSound, readable, phaseSound, inputSound, coreSound, sound};
 
 // Whether all bytes from a place on are zeros.
 fn zeros_from(s: &[u8], from: usize) -> bool
@@ -808,4 +810,56 @@ pub fn input_sound(o: Opened, i: Input) -> bool
         return false;
     }
     phase_sound(o.room, i)
+}
+
+// The session's place: a session, or none.
+fn session_place_sound(n: Numbers, s: Session) -> bool
+    ensures { λ r. ⌜ r ≡ pick (isLive s) (sessionSound n s) (sessionBlank s) ⌝ }
+{
+    if s.live == 0 {
+        return session_blank(s);
+    }
+    session_sound(n, s)
+}
+
+pub fn core_sound(k: Core) -> bool
+    ensures { λ r. ⌜ r ≡ coreSound k ⌝ }
+{
+    let n = k.numbers;
+    if !numbers_sound(n) {
+        return false;
+    }
+    let session = k.session;
+    if 1 < session.live {
+        return false;
+    }
+    if !session_place_sound(n, session) {
+        return false;
+    }
+    let shelf = k.shelf;
+    if !shelf_sound(n, session, shelf) {
+        return false;
+    }
+    let queue = k.queue;
+    if !queue_sound(n, queue) {
+        return false;
+    }
+    if !distinct::uids_apart(session, shelf) {
+        return false;
+    }
+    let opened = k.opened;
+    opened_sound(opened)
+}
+
+// The records' rules.
+pub fn state_sound(s: State) -> bool
+    ensures { λ r. ⌜ r ≡ sound s ⌝ }
+{
+    let core = s.core;
+    if !core_sound(core) {
+        return false;
+    }
+    let opened = core.opened;
+    let input = s.input;
+    input_sound(opened, input)
 }
