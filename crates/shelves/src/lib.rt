@@ -19,7 +19,8 @@ ghost use lib.ListN.{length, set, drop};
 ghost use Rattle.rules.specs.Bounds.{mostBoxes};
 ghost use Rattle.rules.specs.Lists.{from, filledTo, without};
 ghost use Rattle.rules.specs.Records.{noName, madeName, sentName, noBox, noFilm, filmsOf, shelved, noEntry, entriesOf, queued, noSession, newSession, serialsUsed, pictureUsed};
-ghost use Rattle.rules.specs.Effects.{nameFrom, newBox};
+ghost use Rattle.rules.specs.Effects.{nameFrom, newBox, sessionDeleted, filmDeleted};
+ghost use Rattle.rules.specs.Calls.{withOpened, closed};
 
 // Names.
 
@@ -195,11 +196,10 @@ fn films_without(films: [Film; 8], i: usize) -> [Film; 8]
     requires { ⌜ (i < 8) × (length films ≡ 8) ⌝ }
     ensures { λ r. ⌜ r ≡ without i films ++ (noFilm ∷ []) ⌝ }
 {
-    let old = films;
     let mut moved = films;
     let mut j = i;
     while j < 7 {
-        let next = old[j + 1];
+        let next = films[j + 1];
         moved[j] = next;
         j += 1;
     }
@@ -235,11 +235,10 @@ fn entries_without_oldest(entries: [Entry; 16]) -> [Entry; 16]
     requires { ⌜ length entries ≡ 16 ⌝ }
     ensures { λ r. ⌜ r ≡ drop 1 entries ++ (noEntry ∷ []) ⌝ }
 {
-    let old = entries;
     let mut moved = entries;
     let mut j = 0;
     while j < 15 {
-        let next = old[j + 1];
+        let next = entries[j + 1];
         moved[j] = next;
         j += 1;
     }
@@ -257,5 +256,120 @@ pub fn oldest_removed(queue: Queue) -> Queue
     Queue {
         count: queue.count - 1,
         entries: left,
+    }
+}
+
+// Next numbers.
+
+pub fn serials_used(n: Numbers, count: u64) -> Numbers
+    requires { ⌜ n .serial + count < 18446744073709551616 ⌝ }
+    ensures { λ r. ⌜ r ≡ serialsUsed count n ⌝ }
+{
+    let root = n.root;
+    Numbers {
+        used: n.used,
+        root,
+        serial: n.serial + count,
+        picture: n.picture,
+        ticket: n.ticket,
+    }
+}
+
+pub fn picture_used(n: Numbers) -> Numbers
+    requires { ⌜ n .picture + 1 < 18446744073709551616 ⌝ }
+    ensures { λ r. ⌜ r ≡ pictureUsed n ⌝ }
+{
+    let root = n.root;
+    Numbers {
+        used: n.used,
+        root,
+        serial: n.serial,
+        picture: n.picture + 1,
+        ticket: n.ticket,
+    }
+}
+
+// The core: "Deletion takes all below it."
+
+pub fn session_deleted(k: Core) -> Core
+    ensures { λ r. ⌜ r ≡ sessionDeleted k ⌝ }
+{
+    let numbers = k.numbers;
+    let session = no_session();
+    let shelf = no_films();
+    let queue = k.queue;
+    let opened = k.opened;
+    Core {
+        numbers,
+        session,
+        shelf,
+        queue,
+        opened,
+    }
+}
+
+pub fn film_deleted(k: Core, i: usize) -> Core
+    requires { ⌜ (shelved (filmsOf (k .shelf)) ≡ k .shelf) × (i < length (filmsOf (k .shelf))) × (k .shelf .count ≤ 8) ⌝ }
+    ensures { λ r. ⌜ r ≡ filmDeleted k i ⌝ }
+{
+    let numbers = k.numbers;
+    let session = k.session;
+    let before = k.shelf;
+    let shelf = film_removed(before, i);
+    let queue = k.queue;
+    let opened = k.opened;
+    Core {
+        numbers,
+        session,
+        shelf,
+        queue,
+        opened,
+    }
+}
+
+// What open fixes, and close drops.
+
+pub fn opened(k: Core, context: u8, syntax: u8, room: u32) -> Core
+    ensures { λ r. ⌜ r ≡ withOpened (record { live = 1; context = context; syntax = syntax; room = room }) k ⌝ }
+{
+    let numbers = k.numbers;
+    let session = k.session;
+    let shelf = k.shelf;
+    let queue = k.queue;
+    let opened = Opened {
+        live: 1,
+        context,
+        syntax,
+        room,
+    };
+    Core {
+        numbers,
+        session,
+        shelf,
+        queue,
+        opened,
+    }
+}
+
+// "Close drops session, films, boxes and input; queue and next numbers stay."
+pub fn closed(k: Core) -> Core
+    ensures { λ r. ⌜ r ≡ closed k ⌝ }
+{
+    let numbers = k.numbers;
+    let session = no_session();
+    let shelf = no_films();
+    let queue = k.queue;
+    let opened = Opened {
+        live: 0,
+        context: 0,
+        syntax: 0,
+        room: 0,
+    };
+    Core {
+        numbers,
+        session,
+        shelf,
+        queue,
+        opened,
     }
 }

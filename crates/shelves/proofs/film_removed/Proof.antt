@@ -1,7 +1,4 @@
-use mathlib.Core.List.{[], _∷_, _++_}
-use mathlib.Core.Path.{ap, _∙_}
 use Rattle.rules.specs.Bounds.{mostFilms}
-use Rattle.rules.specs.Lists.{without}
 use Rattle.rules.specs.Records.{noFilm, filmsOf}
 use Rattle.shelves.proofs.Filled.{holds-length, holds-without}
 use Rattle.shelves.proofs.Tidied.{shelf-holds, shelf-of}

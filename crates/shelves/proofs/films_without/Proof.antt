@@ -8,24 +8,24 @@ use Rattle.shelves.proofs.films_without.Statement.{statement}
 use Rattle.shelves.proofs.films_without.Tie as tie
 
 abbrev Inv-loop : tie.InvT-loop
-Inv-loop i old moved₀ j₀ moved j = (i ≤ j) × (j ≤ 7) × (moved ≡ lowered i j old)
+Inv-loop i films moved₀ j₀ moved j = (i ≤ j) × (j ≤ 7) × (moved ≡ lowered i j films)
 
 abbrev μ-loop : tie.MeasureT-loop
-μ-loop i old moved₀ j₀ moved j = 7 - j
+μ-loop i films moved₀ j₀ moved j = 7 - j
 
 loop-holds : tie.Need-loop-holds Inv-loop μ-loop
-loop-holds c = (search needs, search needs, sym (lowered-none (c .args .i) (c .args .films)))
+loop-holds c = (search needs, search needs, sym (lowered-none (c .args .i) (c .args .t1)))
 
 loop-again : tie.Need-loop-again Inv-loop μ-loop
 loop-again c = let o = c .before .before .loop in
     let a = c .before .before .before .args in
-    (search needs, search needs, rw (o .inv .2) (lowered-more (a .i) (o .j) (a .films) (o .inv .0) (search needs) _ (search needs)))
+    (search needs, search needs, rw (o .inv .2) (lowered-more (a .i) (o .j) (a .t1) (o .inv .0) (search needs) _ (search needs)))
 
 returns : tie.Need-returns Inv-loop μ-loop
 returns c = let o = c .before .before .loop in
     let a = c .before .before .before .args in
     rw (o .inv .2, c .no-film .ensures)
-    (lowered-all (a .i) (o .j) 7 (a .films) noFilm (omega arith) (search needs) (c .before .before .before .pre .1))
+    (lowered-all (a .i) (o .j) 7 (a .t1) noFilm (omega arith) (search needs) (c .before .before .before .pre .1))
 
 pub films-without-spec : {M : Type 1} → statement M
 films-without-spec =
