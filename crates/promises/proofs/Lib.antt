@@ -34,6 +34,7 @@ pub mod Sized
 pub mod SizedAfter
 pub mod SizedSteps
 pub mod Good
+pub mod Tidy
 pub mod Unpacked
 pub mod Next
 pub mod NextCalls

@@ -1,0 +1,144 @@
+-- Places past the count are blank: a shelf is what its films make, and a queue what its entries make.
+-- Assumes nothing.
+use Prim.Native.Nat.{ℕ, _-_, _≤_}
+use mathlib.Core.Path.{_≡_, refl, ap, _∙_}
+use mathlib.Core.Bool.{Bool, true, false}
+use mathlib.Core.List.{List, [], _∷_}
+use native.Mathlib.Omega.{arith}
+use lib.Dec.{eqb}
+use lib.ListN.{length, take, drop, replicate, length-drop, take-append-drop}
+use lib.Seq.{length-take-le}
+use borrow.Author.Tests.{leb-true, eqb-true}
+use Rattle.choice.specs.Pick.{pick}
+use Rattle.rules.specs.declared.Picture.{Picture}
+use Rattle.rules.specs.declared.Name.{Name}
+use Rattle.rules.specs.declared.ImageBox.{ImageBox}
+use Rattle.rules.specs.declared.Film.{Film}
+use Rattle.rules.specs.declared.Shelf.{Shelf}
+use Rattle.rules.specs.declared.Entry.{Entry}
+use Rattle.rules.specs.declared.Queue.{Queue}
+use Rattle.rules.specs.declared.Core.{Core}
+use Rattle.rules.specs.Bounds.{mostFilms, mostBoxes, mostEntries}
+use Rattle.rules.specs.Lists.{every, filledTo}
+use Rattle.rules.specs.Records.{serial, picture, noName, noBox, noFilm, filmsOf, shelved, noEntry, entriesOf, queued, isLive}
+use Rattle.rules.specs.Sound.{zeros, nameBlank, boxBlank, filmBlank, entryBlank, coreSound}
+use Rattle.promises.proofs.ListLaws.{Each, each-drop, each-told, each-so, all-true}
+use Rattle.promises.proofs.Sized.{NameSized, FilmSized, EntrySized, Sized}
+use Rattle.promises.proofs.Facts.{core-facts, shelf-facts, queue-facts, filmRoom}
+
+-- Lists of one element.
+
+module _ {A : Type 0} (blank : A) where
+  all-alike : (n : ℕ) (xs : List A) → length xs ≡ n → Each (λ (x : A). x ≡ blank) xs → xs ≡ replicate n blank
+  all-alike n [] e h = rw (← e)
+  all-alike n (x ∷ xs) e h = rw (← e, h .0, ← (all-alike (length xs) xs refl (h .1)))
+
+-- places that hold their front, and blanks behind it
+record Tidy {A : Type 0} (m : ℕ) (blank : A) (count : ℕ) (places : List A) : Type 0 where
+  counted : length (take count places) ≡ count
+  filled : filledTo m blank (take count places) ≡ places
+
+-- so they are where what is behind passes a test that blanks alone pass
+module _ {A : Type 0} (blank : A) (test : A → Bool) (P : A → Type 0) (same : (x : A) → test x ≡ true → P x → x ≡ blank) where
+  tidied : (m n : ℕ) (xs : List A) → n ≤ m → length xs ≡ m → Each P xs → every test (drop n xs) ≡ true → Tidy m blank n xs
+  tidied m n xs h l s e =
+      let front : length (take n xs) ≡ n = length-take-le n xs (omega arith) in
+      let blanks = each-so P test (λ (x : A). x ≡ blank) same (drop n xs) e (each-drop P n xs s) in
+      record {
+        counted = front;
+        filled = rw (front, ← (all-alike blank (m - n) (drop n xs) (length-drop n xs ∙ rw l) blanks)) (take-append-drop n xs);
+      }
+
+each-zero : (xs : List ℕ) → zeros xs ≡ true → Each (λ (n : ℕ). n ≡ 0) xs
+each-zero xs e = each-told (λ (n : ℕ). n ≡ 0) (λ (n : ℕ). eqb n 0) (λ n h. eqb-true n 0 h) xs e
+
+all-zero : (n : ℕ) (xs : List ℕ) → length xs ≡ n → zeros xs ≡ true → xs ≡ replicate n 0
+all-zero n xs l e = all-alike 0 n xs l (each-zero xs e)
+
+-- What is blank is nothing.
+
+name-of : (made used : ℕ) (text : List ℕ) → made ≡ 0 → used ≡ 0 → text ≡ replicate 64 0 → _≡_ {A = Name} (record { made = serial made; used = used; text = text }) noName
+name-of made used text e f g = rw (e, f, g)
+
+blank-name : (name : Name) → nameBlank name ≡ true → NameSized name → name ≡ noName
+blank-name name e s =
+    let t = all-true _ e in
+    name-of (name .made .0) (name .used) (name .text) (eqb-true (name .made .0) 0 (t .0)) (eqb-true (name .used) 0 (t .1 .0)) (all-zero 64 (name .text) s (t .1 .1 .0))
+
+box-of : (position polarity number : ℕ) → position ≡ 0 → polarity ≡ 0 → number ≡ 0 → _≡_ {A = ImageBox} (record { position = position; polarity = polarity; picture = picture number }) noBox
+box-of position polarity number e f g = rw (e, f, g)
+
+blank-box : (b : ImageBox) → boxBlank b ≡ true → b ≡ noBox
+blank-box b e =
+    let t = each-zero (b .position ∷ b .polarity ∷ b .picture .0 ∷ []) e in
+    box-of (b .position) (b .polarity) (b .picture .0) (t .0) (t .1 .0) (t .1 .1 .0)
+
+film-of : (name : Name) (lines : ℕ) (counts : List ℕ) (orientation magnification first : ℕ) (boxes : List ImageBox) → name ≡ noName → lines ≡ 0 → counts ≡ replicate 6 0 → orientation ≡ 0 → magnification ≡ 0 → first ≡ 0 → boxes ≡ replicate mostBoxes noBox → _≡_ {A = Film} (record { name = name; layout = record { lines = lines; counts = counts }; orientation = orientation; magnification = magnification; first = serial first; boxes = boxes }) noFilm
+film-of name lines counts orientation magnification first boxes e f g h i j k = rw (e, f, g, h, i, j, k)
+
+blank-film : (f : Film) → filmBlank f ≡ true → FilmSized f → f ≡ noFilm
+blank-film f e s =
+    let t = all-true _ e in
+    let z = each-zero (f .layout .lines ∷ f .orientation ∷ f .magnification ∷ f .first .0 ∷ []) (t .1 .0) in
+    film-of (f .name) (f .layout .lines) (f .layout .counts) (f .orientation) (f .magnification) (f .first .0) (f .boxes)
+    (blank-name (f .name) (t .0) (s .name))
+    (z .0)
+    (all-zero 6 (f .layout .counts) (s .counts) (t .1 .1 .0))
+    (z .1 .0)
+    (z .1 .1 .0)
+    (z .1 .1 .1 .0)
+    (all-alike noBox mostBoxes (f .boxes) (s .boxes) (each-told (λ (b : ImageBox). b ≡ noBox) boxBlank blank-box (f .boxes) (t .1 .1 .1 .0)))
+
+no-picture : (p : Picture) → eqb (p .0) 0 ≡ true → p ≡ picture 0
+no-picture p e = ap picture (eqb-true (p .0) 0 e)
+
+entry-of : (pictures : List Picture) (ticket copies : ℕ) (film : Name) → pictures ≡ replicate mostBoxes (picture 0) → ticket ≡ 0 → copies ≡ 0 → film ≡ noName → _≡_ {A = Entry} (record { pictures = pictures; ticket = ticket; copies = copies; film = film }) noEntry
+entry-of pictures ticket copies film e f g h = rw (e, f, g, h)
+
+blank-entry : (e : Entry) → entryBlank e ≡ true → EntrySized e → e ≡ noEntry
+blank-entry e h s =
+    let t = all-true _ h in
+    let z = each-zero (e .ticket ∷ e .copies ∷ []) (t .1 .0) in
+    entry-of (e .pictures) (e .ticket) (e .copies) (e .film)
+    (all-alike (picture 0) mostBoxes (e .pictures) (s .pictures) (each-told (λ (p : Picture). p ≡ picture 0) (λ (p : Picture). eqb (p .0) 0) no-picture (e .pictures) (t .0)))
+    (z .0)
+    (z .1 .0)
+    (blank-name (e .film) (t .1 .1 .0) (s .film))
+
+-- The shelf.
+
+few-films : (live : Bool) (n : ℕ) → n ≤ pick live mostFilms 0 → n ≤ mostFilms
+few-films true n h = h
+few-films false n h = omega arith
+
+pub shelf-few : (k : Core) → coreSound k ≡ true → k .shelf .count ≤ mostFilms
+shelf-few k e =
+    let f = shelf-facts (k .numbers) (k .session) (k .shelf) (core-facts k e .shelf) in
+    few-films (isLive (k .session)) (k .shelf .count) (leb-true (k .shelf .count) (filmRoom (k .session)) (f .count))
+
+shelf-of : (count : ℕ) (places : List Film) → Tidy mostFilms noFilm count places → _≡_ {A = Shelf} (shelved (take count places)) (record { count = count; films = places })
+unfolding shelved
+shelf-of count places t = rw (t .filled, t .counted)
+
+pub tidy-shelf : (k : Core) → coreSound k ≡ true → Sized k → shelved (filmsOf (k .shelf)) ≡ k .shelf
+unfolding filmsOf
+tidy-shelf k e s =
+    let f = shelf-facts (k .numbers) (k .session) (k .shelf) (core-facts k e .shelf) in
+    shelf-of (k .shelf .count) (k .shelf .films)
+    (tidied noFilm filmBlank FilmSized blank-film mostFilms (k .shelf .count) (k .shelf .films) (shelf-few k e) (s .shelf .films) (s .shelf .each) (f .behind))
+
+-- The queue.
+
+pub queue-few : (k : Core) → coreSound k ≡ true → k .queue .count ≤ mostEntries
+queue-few k e = leb-true (k .queue .count) mostEntries (queue-facts (k .numbers) (k .queue) (core-facts k e .queue) .count)
+
+queue-of : (count : ℕ) (places : List Entry) → Tidy mostEntries noEntry count places → _≡_ {A = Queue} (queued (take count places)) (record { count = count; entries = places })
+unfolding queued
+queue-of count places t = rw (t .filled, t .counted)
+
+pub tidy-queue : (k : Core) → coreSound k ≡ true → Sized k → queued (entriesOf (k .queue)) ≡ k .queue
+unfolding entriesOf
+tidy-queue k e s =
+    let f = queue-facts (k .numbers) (k .queue) (core-facts k e .queue) in
+    queue-of (k .queue .count) (k .queue .entries)
+    (tidied noEntry entryBlank EntrySized blank-entry mostEntries (k .queue .count) (k .queue .entries) (queue-few k e) (s .queue .entries) (s .queue .each) (f .behind))
