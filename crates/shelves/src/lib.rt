@@ -295,10 +295,10 @@ pub fn session_deleted(k: Core) -> Core
     ensures { λ r. ⌜ r ≡ sessionDeleted k ⌝ }
 {
     let numbers = k.numbers;
-    let session = no_session();
-    let shelf = no_films();
     let queue = k.queue;
     let opened = k.opened;
+    let shelf = no_films();
+    let session = no_session();
     Core {
         numbers,
         session,
@@ -314,10 +314,10 @@ pub fn film_deleted(k: Core, i: usize) -> Core
 {
     let numbers = k.numbers;
     let session = k.session;
-    let before = k.shelf;
-    let shelf = film_removed(before, i);
     let queue = k.queue;
     let opened = k.opened;
+    let all = k.shelf;
+    let shelf = film_removed(all, i);
     Core {
         numbers,
         session,
@@ -329,19 +329,13 @@ pub fn film_deleted(k: Core, i: usize) -> Core
 
 // What open fixes, and close drops.
 
-pub fn opened(k: Core, context: u8, syntax: u8, room: u32) -> Core
-    ensures { λ r. ⌜ r ≡ withOpened (record { live = 1; context = context; syntax = syntax; room = room }) k ⌝ }
+fn with_opened(k: Core, opened: Opened) -> Core
+    ensures { λ r. ⌜ r ≡ withOpened opened k ⌝ }
 {
     let numbers = k.numbers;
     let session = k.session;
     let shelf = k.shelf;
     let queue = k.queue;
-    let opened = Opened {
-        live: 1,
-        context,
-        syntax,
-        room,
-    };
     Core {
         numbers,
         session,
@@ -351,25 +345,28 @@ pub fn opened(k: Core, context: u8, syntax: u8, room: u32) -> Core
     }
 }
 
+pub fn opened(k: Core, context: u8, syntax: u8, room: u32) -> Core
+    ensures { λ r. ⌜ r ≡ withOpened (record { live = 1; context = context; syntax = syntax; room = room }) k ⌝ }
+{
+    let fixed = Opened {
+        live: 1,
+        context,
+        syntax,
+        room,
+    };
+    with_opened(k, fixed)
+}
+
 // "Close drops session, films, boxes and input; queue and next numbers stay."
 pub fn closed(k: Core) -> Core
     ensures { λ r. ⌜ r ≡ closed k ⌝ }
 {
-    let numbers = k.numbers;
-    let session = no_session();
-    let shelf = no_films();
-    let queue = k.queue;
-    let opened = Opened {
+    let left = session_deleted(k);
+    let none = Opened {
         live: 0,
         context: 0,
         syntax: 0,
         room: 0,
     };
-    Core {
-        numbers,
-        session,
-        shelf,
-        queue,
-        opened,
-    }
+    with_opened(left, none)
 }

@@ -5,7 +5,7 @@ use Rattle.shelves.proofs.session_deleted.Tie as tie
 
 returns : tie.Need-returns
 unfolding sessionDeleted
-returns c = simp (c .before .before .no-films .ensures, c .before .before .before .no-session .ensures)
+returns c = simp (c .no-session .ensures, c .before .no-films .ensures)
 
 pub session-deleted-spec : {M : Type 1} → statement M
 session-deleted-spec = tie.close (tie.spec (λ c κs. search needs) (λ c κs. search needs) returns)
