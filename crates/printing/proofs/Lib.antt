@@ -1,0 +1,4 @@
+-- What one turn of each loop does.
+mod Sums
+mod Rest
+mod Positions

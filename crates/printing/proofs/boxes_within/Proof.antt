@@ -1,0 +1,16 @@
+use mathlib.Core.Path.{refl, sym, _∙_}
+use native.Mathlib.Omega.{arith}
+use lib.Seq.{take-all}
+use borrow.Author.Needs.{needs}
+use Rattle.printing.proofs.boxes_within.Statement.{statement}
+use Rattle.printing.proofs.boxes_within.Tie as tie
+
+returns : tie.Need-returns
+returns c = let a = c .before .args in
+    (search needs, take-all 36 (a .a) (omega arith) ∙ sym (take-all (a .n) (a .a) (omega arith)))
+
+returns-2 : tie.Need-returns-2
+returns-2 c = (search needs, refl)
+
+pub boxes-within-spec : {M : Type 1} → statement M
+boxes-within-spec = tie.close (tie.spec returns returns-2)
