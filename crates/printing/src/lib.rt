@@ -1,17 +1,25 @@
 // Printing: checks 10 and 11 of N-ACTION, and what it queues.
+use rules::Core;
+use rules::Entry;
 use rules::Film;
 use rules::ImageBox;
 use rules::Layout;
+use rules::Numbers;
 use rules::Picture;
+use rules::Queue;
+use rules::Shelf;
 ghost use mathlib.Core.Path.{_≡_};
-ghost use Prim.Native.Nat.{_<_, _≤_};
+ghost use Prim.Native.Nat.{_+_, _-_, _<_, _≤_};
+ghost use mathlib.Core.List.{[], _∷_, _++_, map};
 ghost use lib.Dec.{eqb};
-ghost use lib.ListN.{take, drop};
+ghost use lib.ListN.{length, getD, take, drop};
 ghost use Rattle.choice.specs.Pick.{both, not};
-ghost use Rattle.rules.specs.Lists.{any, apart, sum};
-ghost use Rattle.rules.specs.Records.{boxCount, boxesOf, filled};
-ghost use Rattle.rules.specs.Effects.{pictureOn, filledBoxes, noneFilled};
-ghost use Rattle.rules.specs.Checks.{samePosition, collides};
+ghost use Rattle.choice.specs.Rules.{firstBroken};
+ghost use Rattle.rules.specs.Bounds.{mostBoxes, mostEntries};
+ghost use Rattle.rules.specs.Lists.{any, apart, sum, from};
+ghost use Rattle.rules.specs.Records.{boxCount, boxesOf, filled, noFilm, filmsOf, entriesOf, queued};
+ghost use Rattle.rules.specs.Effects.{filmAt, pictureOn, entryOf, nextTicket, ticketed, printed, filledBoxes, noneFilled};
+ghost use Rattle.rules.specs.Checks.{samePosition, collides, sessionPrintRules, filmPrintRules};
 
 fn wide(b: u8) -> u64
     ensures { λ r. ⌜ (r ≡ b) × (r < 256) ⌝ }
@@ -165,4 +173,256 @@ pub fn none_filled(f: Film) -> bool
         return false;
     }
     true
+}
+
+// The picture at each position, of the first n boxes.
+fn pictures_of(a: [ImageBox; 36], n: usize) -> [Picture; 36]
+    requires { ⌜ n ≤ 36 ⌝ }
+    ensures { λ r. ⌜ r ≡ map (pictureOn (take n a)) (from 1 mostBoxes) ⌝ }
+{
+    let mut xs = [Picture(0); 36];
+    let mut i = 0;
+    while i < 36 {
+        let x = picture_from(a, n, 0, i + 1);
+        xs[i] = x;
+        i += 1;
+    }
+    xs
+}
+
+// "thirty-six picture numbers in position order (0 empty), the film's UID, copies and a ticket"
+pub fn entry_of(k: Core, ticket: u16, f: Film) -> Entry
+    ensures { λ r. ⌜ r ≡ entryOf k ticket f ⌝ }
+{
+    let boxes = f.boxes;
+    let pictures = pictures_of(boxes, places(f));
+    let session = k.session;
+    let copies = session.copies;
+    let film = f.name;
+    Entry {
+        pictures,
+        ticket,
+        copies,
+        film,
+    }
+}
+
+// How many of the first n films there are.
+fn films_within(a: [Film; 8], n: usize) -> usize
+    ensures { λ r. ⌜ (r ≤ 8) × (take r a ≡ take n a) × (length (take n a) ≡ r) ⌝ }
+{
+    if 8 < n {
+        return 8;
+    }
+    n
+}
+
+// How many films are shelved.
+fn film_count(s: Shelf) -> usize
+    ensures { λ r. ⌜ (r ≤ 8) × (take r (s .films) ≡ filmsOf s) × (length (filmsOf s) ≡ r) ⌝ }
+{
+    let films = s.films;
+    films_within(films, s.count as usize)
+}
+
+// How many of the first n entries there are.
+fn entries_within(a: [Entry; 16], n: usize) -> usize
+    ensures { λ r. ⌜ (r ≤ 16) × (length (take n a) ≡ r) ⌝ }
+{
+    if 16 < n {
+        return 16;
+    }
+    n
+}
+
+// How many entries the queue has room for.
+fn room(q: Queue) -> usize
+    ensures { λ r. ⌜ r ≡ mostEntries - length (entriesOf q) ⌝ }
+{
+    let entries = q.entries;
+    16 - entries_within(entries, q.count as usize)
+}
+
+fn any_collide(a: [Film; 8], n: usize) -> bool
+    requires { ⌜ n ≤ 8 ⌝ }
+    ensures { λ r. ⌜ r ≡ any collides (take n a) ⌝ }
+{
+    let xs = a;
+    let mut i = 0;
+    while i < n {
+        let x = xs[i];
+        if film_collides(x) {
+            return true;
+        }
+        i += 1;
+    }
+    false
+}
+
+// Whether a shelved film has two filled boxes at one position.
+fn films_collide(s: Shelf) -> bool
+    ensures { λ r. ⌜ r ≡ any collides (filmsOf s) ⌝ }
+{
+    let films = s.films;
+    any_collide(films, film_count(s))
+}
+
+// Check 10, for a session: the number of the first rule broken, 0 where none is.
+pub fn session_print_broken(k: Core) -> u16
+    ensures { λ r. ⌜ r ≡ firstBroken (sessionPrintRules k) ⌝ }
+{
+    let shelf = k.shelf;
+    let count = film_count(shelf);
+    if count == 0 {
+        return 0xC600;
+    }
+    if films_collide(shelf) {
+        return 0xC604;
+    }
+    let queue = k.queue;
+    if room(queue) < count {
+        return 0xC601;
+    }
+    0
+}
+
+// Of the first n films the one at a place.
+fn film_within(a: [Film; 8], n: usize, i: usize) -> Film
+    requires { ⌜ i < length (take n a) ⌝ }
+    ensures { λ r. ⌜ r ≡ getD (take n a) i noFilm ⌝ }
+{
+    let xs = a;
+    xs[i]
+}
+
+fn film_at(s: Shelf, i: usize) -> Film
+    requires { ⌜ i < length (filmsOf s) ⌝ }
+    ensures { λ r. ⌜ r ≡ getD (filmsOf s) i noFilm ⌝ }
+{
+    let films = s.films;
+    film_within(films, s.count as usize, i)
+}
+
+// Check 10, for the film at a place.
+pub fn film_print_broken(k: Core, i: usize) -> u16
+    requires { ⌜ i < length (filmsOf (k .shelf)) ⌝ }
+    ensures { λ r. ⌜ r ≡ firstBroken (filmPrintRules k i) ⌝ }
+{
+    let shelf = k.shelf;
+    let film = film_at(shelf, i);
+    if film_collides(film) {
+        return 0xC604;
+    }
+    let queue = k.queue;
+    if room(queue) < 1 {
+        return 0xC602;
+    }
+    0
+}
+
+// The queue with an entry more, its newest.
+fn queue_with(q: Queue, e: Entry) -> Queue
+    requires { ⌜ (queued (entriesOf q) ≡ q) × (length (entriesOf q) < 16) ⌝ }
+    ensures { λ r. ⌜ r ≡ queued (entriesOf q ++ (e ∷ [])) ⌝ }
+{
+    let mut entries = q.entries;
+    let count = q.count as usize;
+    entries[count] = e;
+    Queue {
+        count: q.count + 1,
+        entries,
+    }
+}
+
+// "after 65,535 comes 0"
+fn ticket_used(n: Numbers) -> Numbers
+    ensures { λ r. ⌜ r ≡ ticketed (nextTicket (n .ticket)) n ⌝ }
+{
+    let mut next = n;
+    next.ticket = std::num::wrapping_add_u16(n.ticket, 1);
+    next
+}
+
+// One film printed: its entry queued, and the ticket advanced.
+fn printed_one(k: Core, f: Film) -> Core
+    requires { ⌜ (queued (entriesOf (k .queue)) ≡ k .queue) × (length (entriesOf (k .queue)) < 16) ⌝ }
+    ensures { λ r. ⌜ r ≡ printed k (f ∷ []) ⌝ }
+{
+    let used = k.numbers;
+    let entry = entry_of(k, used.ticket, f);
+    let numbers = ticket_used(used);
+    let waiting = k.queue;
+    let queue = queue_with(waiting, entry);
+    let session = k.session;
+    let shelf = k.shelf;
+    let opened = k.opened;
+    Core {
+        numbers,
+        session,
+        shelf,
+        queue,
+        opened,
+    }
+}
+
+// "A session queues its films in creation order."
+fn printed_films(k: Core, a: [Film; 8], n: usize) -> Core
+    requires { ⌜ (queued (entriesOf (k .queue)) ≡ k .queue) × (n ≤ 8) × (length (entriesOf (k .queue)) + n ≤ 16) ⌝ }
+    ensures { λ r. ⌜ r ≡ printed k (take n a) ⌝ }
+{
+    let xs = a;
+    let mut after = k;
+    let mut i = 0;
+    while i < n {
+        let x = xs[i];
+        after = printed_one(after, x);
+        i += 1;
+    }
+    after
+}
+
+// A session printed, where the queue has room for its films.
+pub fn printed_session(k: Core) -> Core
+    requires { ⌜ (queued (entriesOf (k .queue)) ≡ k .queue) × (length (entriesOf (k .queue)) + length (filmsOf (k .shelf)) ≤ 16) ⌝ }
+    ensures { λ r. ⌜ r ≡ printed k (filmsOf (k .shelf)) ⌝ }
+{
+    let shelf = k.shelf;
+    let films = shelf.films;
+    let count = film_count(shelf);
+    printed_films(k, films, count)
+}
+
+// A film printed, where the queue has room for it.
+pub fn printed_film(k: Core, i: usize) -> Core
+    requires { ⌜ (i < length (filmsOf (k .shelf))) × (queued (entriesOf (k .queue)) ≡ k .queue) × (length (entriesOf (k .queue)) < 16) ⌝ }
+    ensures { λ r. ⌜ r ≡ printed k (filmAt k i ∷ []) ⌝ }
+{
+    let shelf = k.shelf;
+    let film = film_at(shelf, i);
+    printed_one(k, film)
+}
+
+fn any_none_filled(a: [Film; 8], n: usize) -> bool
+    requires { ⌜ n ≤ 8 ⌝ }
+    ensures { λ r. ⌜ r ≡ any noneFilled (take n a) ⌝ }
+{
+    let xs = a;
+    let mut i = 0;
+    while i < n {
+        let x = xs[i];
+        if none_filled(x) {
+            return true;
+        }
+        i += 1;
+    }
+    false
+}
+
+// Check 11, for a session: "a film has no filled box".
+pub fn any_empty(k: Core) -> bool
+    ensures { λ r. ⌜ r ≡ any noneFilled (filmsOf (k .shelf)) ⌝ }
+{
+    let shelf = k.shelf;
+    let films = shelf.films;
+    any_none_filled(films, film_count(shelf))
 }

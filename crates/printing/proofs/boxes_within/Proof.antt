@@ -1,13 +1,13 @@
-use mathlib.Core.Path.{refl, sym, _∙_}
+use mathlib.Core.Path.{refl}
 use native.Mathlib.Omega.{arith}
-use lib.Seq.{take-all}
+use Rattle.printing.proofs.Rest.{few-all}
 use borrow.Author.Needs.{needs}
 use Rattle.printing.proofs.boxes_within.Statement.{statement}
 use Rattle.printing.proofs.boxes_within.Tie as tie
 
 returns : tie.Need-returns
 returns c = let a = c .before .args in
-    (search needs, take-all 36 (a .a) (omega arith) ∙ sym (take-all (a .n) (a .a) (omega arith)))
+    (search needs, few-all (a .a) (a .n) 36 (omega arith) (c .if1 .taken) .0)
 
 returns-2 : tie.Need-returns-2
 returns-2 c = (search needs, refl)
