@@ -11,10 +11,10 @@ use rules::Shelf;
 ghost use mathlib.Core.Path.{_≡_};
 ghost use Prim.Native.Nat.{_+_, _-_, _<_, _≤_};
 ghost use mathlib.Core.List.{[], _∷_, _++_, map};
-ghost use lib.Dec.{eqb};
+ghost use lib.Dec.{eqb, ltb};
 ghost use lib.ListN.{length, getD, take, drop};
 ghost use Rattle.choice.specs.Pick.{both, not};
-ghost use Rattle.choice.specs.Rules.{firstBroken};
+ghost use Rattle.choice.specs.Rules.{_⇒_, firstBroken};
 ghost use Rattle.rules.specs.Bounds.{mostBoxes, mostEntries};
 ghost use Rattle.rules.specs.Lists.{any, apart, sum, from};
 ghost use Rattle.rules.specs.Records.{boxCount, boxesOf, filled, noFilm, filmsOf, entriesOf, queued};
@@ -243,6 +243,16 @@ fn room(q: Queue) -> usize
     16 - entries_within(entries, q.count as usize)
 }
 
+// Whether the queue has too little room for n entries more.
+fn lacks_room(q: Queue, n: usize) -> bool
+    ensures { λ r. ⌜ r ≡ ltb (mostEntries - length (entriesOf q)) n ⌝ }
+{
+    if room(q) < n {
+        return true;
+    }
+    false
+}
+
 fn any_collide(a: [Film; 8], n: usize) -> bool
     requires { ⌜ n ≤ 8 ⌝ }
     ensures { λ r. ⌜ r ≡ any collides (take n a) ⌝ }
@@ -267,6 +277,19 @@ fn films_collide(s: Shelf) -> bool
     any_collide(films, film_count(s))
 }
 
+// The last two rules of check 10; the second has its own number for a session and for a film.
+fn print_broken(colliding: bool, full: bool, number: u16) -> u16
+    ensures { λ r. ⌜ r ≡ firstBroken ((colliding ⇒ 0xC604) ∷ (full ⇒ number) ∷ []) ⌝ }
+{
+    if colliding {
+        return 0xC604;
+    }
+    if full {
+        return number;
+    }
+    0
+}
+
 // Check 10, for a session: the number of the first rule broken, 0 where none is.
 pub fn session_print_broken(k: Core) -> u16
     ensures { λ r. ⌜ r ≡ firstBroken (sessionPrintRules k) ⌝ }
@@ -276,14 +299,10 @@ pub fn session_print_broken(k: Core) -> u16
     if count == 0 {
         return 0xC600;
     }
-    if films_collide(shelf) {
-        return 0xC604;
-    }
+    let colliding = films_collide(shelf);
     let queue = k.queue;
-    if room(queue) < count {
-        return 0xC601;
-    }
-    0
+    let full = lacks_room(queue, count);
+    print_broken(colliding, full, 0xC601)
 }
 
 // Of the first n films the one at a place.
@@ -310,14 +329,10 @@ pub fn film_print_broken(k: Core, i: usize) -> u16
 {
     let shelf = k.shelf;
     let film = film_at(shelf, i);
-    if film_collides(film) {
-        return 0xC604;
-    }
+    let colliding = film_collides(film);
     let queue = k.queue;
-    if room(queue) < 1 {
-        return 0xC602;
-    }
-    0
+    let full = lacks_room(queue, 1);
+    print_broken(colliding, full, 0xC602)
 }
 
 // The queue with an entry more, its newest.
