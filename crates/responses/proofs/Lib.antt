@@ -1,0 +1,4 @@
+-- The laws of responses: what layers above cite, and what the functions rest on.
+mod Under
+pub mod Response
+pub mod Report
