@@ -1,15 +1,19 @@
 -- The parts that a response, the created film's data set and the report are written in.
 use Prim.Native.Nat.{ℕ, _+_}
 use mathlib.Core.Bool.{Bool, true, false}
-use mathlib.Core.List.{List, [], _∷_, _++_}
+use mathlib.Core.List.{List, [], _∷_, _++_, map}
 use mathlib.Core.Option.{Option, none, some}
 use lib.Dec.{eqb}
 use lib.ListN.{length}
 use Rattle.choice.specs.Pick.{pick}
 use Rattle.octets.specs.Octets.{octets}
 use Rattle.headers.specs.Table.{UI, US}
-use Rattle.writing.specs.Bytes.{element}
-use Rattle.rules.specs.Responses.{Says, dataSetType}
+use Rattle.uids.specs.Uids.{made}
+use Rattle.writing.specs.Tree.{Elements, noElements, value}
+use Rattle.writing.specs.Bytes.{itemHeader, element, written, writtenItems}
+use Rattle.rules.specs.Lists.{from}
+use Rattle.rules.specs.Text.{boxClass}
+use Rattle.rules.specs.Responses.{Says, dataSetType, boxItems}
 
 -- What a response says, from what is handed over: an empty UID is one left out.
 
@@ -54,6 +58,17 @@ unfoldable pub saidThen : Bool → ℕ → List ℕ → Bool → ℕ → List �
 saidThen withData status instance acts kind =
     numberBytes 0x0000_0800 (dataSetType (dataShown withData))
     ++ (numberBytes 0x0000_0900 status ++ (uidBytes 0x0000_1000 instance ++ actionBytes acts kind))
+
+-- The created film's data set: an item's list, the item of a box, and the items of as many boxes as are asked for.
+
+abbrev pub boxTree : List ℕ → Elements
+boxTree uid = value 0x0008_1150 UI boxClass (value 0x0008_1155 UI uid noElements)
+
+unfoldable pub boxBytes : Bool → List ℕ → List ℕ
+boxBytes explicit uid = itemHeader (length (written explicit (boxTree uid))) ++ written explicit (boxTree uid)
+
+unfoldable pub boxesBytes : Bool → List ℕ → ℕ → ℕ → List ℕ
+boxesBytes explicit root first count = writtenItems explicit (boxItems (map (made root) (from first count)))
 
 -- The report: status, lengths of command and data set, and a note's kind with its three numbers.
 unfoldable pub reportBy : ℕ → ℕ → ℕ → ℕ → ℕ → ℕ → ℕ → List ℕ

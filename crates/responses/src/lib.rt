@@ -1,17 +1,25 @@
 // Responses, the created film's data set and the report, written into lent buffers.
+use headers::table::SQ;
 use headers::table::UI;
 use octets::put_number;
+use uids::put_made;
 use writing::put_element;
+use writing::put_header;
+use writing::put_item;
 use writing::put_ul;
 use writing::put_us;
 ghost use mathlib.Core.Bool.{false};
+ghost use mathlib.Core.List.{map};
 ghost use mathlib.Core.Path.{_≡_};
-ghost use Prim.Native.Nat.{_+_, _≤_};
+ghost use Prim.Native.Nat.{_+_, _*_, _≤_};
 ghost use lib.ListN.{length};
 ghost use Rattle.octets.specs.Octets.{octets, laid};
-ghost use Rattle.writing.specs.Bytes.{written};
-ghost use Rattle.rules.specs.Responses.{dataSetType, responseTree};
-ghost use Rattle.responses.specs.Parts.{dataShown, saysBy, numberBytes, uidBytes, actionBytes, saidFirst, saidThen, reportBy};
+ghost use Rattle.uids.specs.Uids.{made};
+ghost use Rattle.headers.specs.Table.{SQ};
+ghost use Rattle.writing.specs.Bytes.{headerSize, written};
+ghost use Rattle.rules.specs.Lists.{from};
+ghost use Rattle.rules.specs.Responses.{dataSetType, responseTree, filmTree};
+ghost use Rattle.responses.specs.Parts.{dataShown, saysBy, numberBytes, uidBytes, actionBytes, saidFirst, saidThen, boxTree, boxBytes, boxesBytes, reportBy};
 
 const GROUP_LENGTH: usize = 0x0000_0000;
 
@@ -28,6 +36,12 @@ const STATUS: usize = 0x0000_0900;
 const INSTANCE: usize = 0x0000_1000;
 
 const ACTION: usize = 0x0000_1008;
+
+const REFERENCED_CLASS: usize = 0x0008_1150;
+
+const REFERENCED_INSTANCE: usize = 0x0008_1155;
+
+const BOX_SEQUENCE: usize = 0x2010_0510;
 
 // A number of two bytes in a command set: the place after it.
 fn put_short(out: &mut [u8], at: usize, tag: usize, x: u16) -> usize
@@ -123,6 +137,82 @@ pub fn put_response(
     let p = put_said_first(out, class, field, message);
     let stop = put_said_then(out, p, with_data, status, instance, acts, kind);
     put_ul(out, 0, false, GROUP_LENGTH, (stop - 12) as u32);
+    stop
+}
+
+// An item's list for the image box of a serial, from a place on: the place after it.
+fn put_box_list(out: &mut [u8], at: usize, explicit: bool, root: &[u8], serial: u32) -> usize
+    requires { ⌜ (at + 90 ≤ length (now out)) × (length (now root) ≤ 40) ⌝ }
+    ensures { λ r. ⌜ (now (out .exit) ≡ laid (now (out .entry)) at (written explicit (boxTree (made (now (root .entry)) serial)))) × (r ≡ at + length (written explicit (boxTree (made (now (root .entry)) serial)))) × (r ≤ at + 90) ⌝ }
+{
+    let mut uid = [0u8; 51];
+    let n = put_made(&mut uid, 0, root, serial);
+    let p = put_element(
+        out,
+        at,
+        explicit,
+        REFERENCED_CLASS,
+        UI,
+        b"1.2.840.10008.5.1.1.4",
+    );
+    put_element(out, p, explicit, REFERENCED_INSTANCE, UI, &uid[0..n])
+}
+
+// The item of an image box from a place on: the place after it. Its header goes in last, since it tells the list's length.
+fn put_box(out: &mut [u8], at: usize, explicit: bool, root: &[u8], serial: u32) -> usize
+    requires { ⌜ (at + 98 ≤ length (now out)) × (length (now root) ≤ 40) ⌝ }
+    ensures { λ r. ⌜ (now (out .exit) ≡ laid (now (out .entry)) at (boxBytes explicit (made (now (root .entry)) serial))) × (r ≡ at + length (boxBytes explicit (made (now (root .entry)) serial))) × (r ≤ at + 98) ⌝ }
+{
+    let stop = put_box_list(out, at + 8, explicit, root, serial);
+    put_item(out, at, stop - at - 8);
+    stop
+}
+
+// The items of as many boxes as are asked for, from a place on: the place after them.
+fn put_boxes(
+    out: &mut [u8],
+    at: usize,
+    explicit: bool,
+    root: &[u8],
+    first: u32,
+    count: usize,
+) -> usize
+    requires { ⌜ (at + 98 * count ≤ length (now out)) × (length (now root) ≤ 40) × (count ≤ 36) × (first + count ≤ 4294967296) ⌝ }
+    ensures { λ r. ⌜ (now (out .exit) ≡ laid (now (out .entry)) at (boxesBytes explicit (now (root .entry)) first count)) × (r ≡ at + length (boxesBytes explicit (now (root .entry)) first count)) × (r ≤ at + 98 * count) ⌝ }
+{
+    let mut p = at;
+    let mut i = 0;
+    while i < count {
+        p = put_box(out, p, explicit, root, first + i as u32);
+        i += 1;
+    }
+    p
+}
+
+// The size of a sequence's header.
+fn sequence_header(explicit: bool) -> usize
+    ensures { λ r. ⌜ (r ≡ headerSize explicit SQ) × (r ≤ 12) ⌝ }
+{
+    if explicit {
+        return 12;
+    }
+    8
+}
+
+// The created film's data set: an item for each box in order. The sequence's header goes in last, since it tells the items' length.
+pub fn put_film_boxes(
+    out: &mut [u8],
+    explicit: bool,
+    root: &[u8],
+    first: u32,
+    count: usize,
+) -> usize
+    requires { ⌜ (8192 ≤ length (now out)) × (length (now root) ≤ 40) × (count ≤ 36) × (first + count ≤ 4294967296) ⌝ }
+    ensures { λ r. ⌜ (now (out .exit) ≡ laid (now (out .entry)) 0 (written explicit (filmTree (map (made (now (root .entry))) (from first count))))) × (r ≡ length (written explicit (filmTree (map (made (now (root .entry))) (from first count))))) ⌝ }
+{
+    let start = sequence_header(explicit);
+    let stop = put_boxes(out, start, explicit, root, first, count);
+    put_header(out, 0, explicit, BOX_SEQUENCE, SQ, stop - start);
     stop
 }
 
