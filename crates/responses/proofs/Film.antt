@@ -1,6 +1,6 @@
 -- The boxes of a created film, laid one after the other behind the header of their sequence, are its data set.
 -- Assumes nothing.
-use Prim.Native.Nat.{ℕ, suc, _+_, _-_, _<_, _≤_, _%_}
+use Prim.Native.Nat.{ℕ, suc, _+_, _-_, _<_, _≤_}
 use mathlib.Core.Path.{_≡_, refl, sym, ap, _∙_}
 use mathlib.Core.Bool.{Bool, true, false}
 use mathlib.Core.List.{List, [], _++_, append-nil, map}
@@ -107,12 +107,12 @@ module _ (explicit : Bool) where
         let l₀ = rw (none, boxes-none (first + i)) at l in
         (sym (e₀ ∙ laid-none o p), omega arith)
 
-    pub film-laid : (s m o : List ℕ) (first count start stop : ℕ) → 8192 ≤ length s → count ≤ 36 → start ≡ headerSize explicit SQ → start ≤ 12
+    pub film-laid : (s m o : List ℕ) (first count start stop : ℕ) → 12 ≤ length s → start ≡ headerSize explicit SQ → start ≤ 12
         → m ≡ laid s start (boxesBytes explicit root first count) → stop ≡ start + length (boxesBytes explicit root first count)
         → o ≡ laid m 0 (header explicit 0x2010_0510 SQ (stop - start))
         → (o ≡ laid s 0 (written explicit (filmTree (map (made root) (from first count))))) × (stop ≡ length (written explicit (filmTree (map (made root) (from first count)))))
     unfolding written filmTree boxesBytes
-    film-laid s m o first count start stop h k es bs em et eo =
+    film-laid s m o first count start stop h es bs em et eo =
         let boxes = boxesBytes explicit root first count in
         let front = header explicit 0x2010_0510 SQ (length boxes) in
         let size : stop - start ≡ length boxes = omega arith in

@@ -1,7 +1,7 @@
 -- A response's parts, laid one after the other, are its command set.
 -- Assumes nothing.
 use Prim.Native.Nat.{ℕ, _+_, _*_, _-_, _<_, _≤_, _/_, _%_}
-use mathlib.Core.Path.{_≡_, refl, sym, ap, _∙_}
+use mathlib.Core.Path.{_≡_, refl, ap, _∙_}
 use mathlib.Core.Bool.{Bool, true, false}
 use mathlib.Core.List.{List, [], _++_, append-assoc, append-nil}
 use mathlib.Core.Option.{none, some}
@@ -16,7 +16,7 @@ use Rattle.writing.specs.Tree.{Elements}
 use Rattle.writing.specs.Bytes.{headerSize, element, written}
 use Rattle.writing.proofs.Sizes.{element-length, number-length}
 use Rattle.writing.proofs.Chain.{laid-next}
-use Rattle.rules.specs.Responses.{Says, uidElement, actionElement, dataSetType, responseElements, responseTree}
+use Rattle.rules.specs.Responses.{Says, uidElement, actionElement, responseElements, responseTree}
 use Rattle.responses.specs.Parts.{given, actionBy, saysBy, dataShown, numberBytes, uidBytes, actionBytes, saidFirst, saidThen}
 use Rattle.responses.proofs.Under.{laid-under}
 

@@ -1,4 +1,3 @@
-use borrow.Author.Needs.{needs}
 use Rattle.responses.proofs.data_set_type.Statement.{statement}
 use Rattle.responses.proofs.data_set_type.Tie as tie
 

@@ -16,7 +16,7 @@ returns : tie.Need-returns
 returns c = let a = c .before .before .before .before .before .before .before .before .before .before .before .args in
     let start = c .before .before .before .before .before .before .before .before .sequence-header in
     let boxes = c .before .before .before .before .before .before .put-boxes in
-    film-laid (a .explicit) (now (a .root)) (now (a .out)) _ _ (a .first) (a .count) (start .result) (boxes .result) (omega arith) (omega arith) (start .ensures .0) (start .ensures .1) (boxes .ensures .0) (boxes .ensures .1) (c .before .before .put-header .ensures .0)
+    film-laid (a .explicit) (now (a .root)) (now (a .out)) _ _ (a .first) (a .count) (start .result) (boxes .result) (omega arith) (start .ensures .0) (start .ensures .1) (boxes .ensures .0) (boxes .ensures .1) (c .before .before .put-header .ensures .0)
 
 pub put-film-boxes-spec : {M : Type 1} → statement M
 put-film-boxes-spec =

@@ -1,6 +1,5 @@
 use native.Mathlib.Omega.{arith}
 use Rattle.responses.proofs.Film.{sequence-explicit, sequence-implicit}
-use borrow.Author.Needs.{needs}
 use Rattle.responses.proofs.sequence_header.Statement.{statement}
 use Rattle.responses.proofs.sequence_header.Tie as tie
 
