@@ -1,4 +1,3 @@
-use Prim.Native.Nat.{_-_}
 use denote.Ref.{now}
 use native.Mathlib.Omega.{arith}
 use Rattle.responses.proofs.Response.{group-length-size, response-laid}
@@ -7,7 +6,7 @@ use Rattle.responses.proofs.put_response.Statement.{statement}
 use Rattle.responses.proofs.put_response.Tie as tie
 
 put-ul-requires : tie.Need-put-ul-requires
-put-ul-requires c κs = let stop = c .before .before .before .put-said-then .result in omega (arith, group-length-size (stop - 12))
+put-ul-requires c κs = rw group-length-size (omega arith)
 
 returns : tie.Need-returns
 returns c = let a = c .before .before .before .before .before .before .before .before .before .before .before .before .before .before .before .args in

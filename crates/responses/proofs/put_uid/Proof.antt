@@ -2,6 +2,8 @@ use mathlib.Core.Path.{sym}
 use denote.Ref.{now}
 use native.Mathlib.Omega.{arith}
 use Rattle.octets.proofs.Laid.{laid-none}
+use Rattle.writing.specs.Bytes.{headerSize}
+use Rattle.writing.proofs.Sizes.{element-length}
 use Rattle.responses.proofs.Response.{uid-size, uid-none, uid-some}
 use borrow.Author.Needs.{needs}
 use Rattle.responses.proofs.put_uid.Statement.{statement}
@@ -12,7 +14,8 @@ returns c = let a = c .before .before .before .args in
     rw (uid-none (a .tag) (now (a .uid)) (c .if1 .taken)) (sym (laid-none (now (a .out)) (a .at)), omega arith, omega arith)
 
 put-element-requires : tie.Need-put-element-requires
-put-element-requires c κs = let a = c .before .before .before .before .args in omega (arith, uid-size (a .tag) (now (a .uid)) (omega arith))
+unfolding headerSize
+put-element-requires c κs = rw element-length (omega arith)
 
 returns-2 : tie.Need-returns-2
 returns-2 c = let a = c .before .before .before .before .before .before .before .args in
