@@ -8,7 +8,7 @@ use Rattle.printing.proofs.printed_session.Tie as tie
 printed-films-requires : tie.Need-printed-films-requires
 printed-films-requires c κs = let a = c .before .before .before in
     let e = c .film-count .ensures in
-    (a .pre .0, e .0, omega (arith, a .pre .1, e .2))
+    (a .pre .0, omega (arith, e .0), omega (arith, a .pre .1, e .2))
 
 returns : tie.Need-returns
 returns c = c .printed-films .ensures ∙ ap (printed (c .before .before .before .before .args .k)) (c .before .film-count .ensures .1)
