@@ -1,0 +1,102 @@
+-- What is told of attributes one by one, and what the worst of them says.
+-- Assumes nothing.
+use Prim.Native.Nat.{ℕ, _≤_, _<_, _-_, _+_, suc}
+use mathlib.Core.Path.{_≡_, refl, sym, ap, _∙_}
+use mathlib.Core.Bool as bool
+use mathlib.Core.Bool.{Bool, true, false}
+use mathlib.Core.List.{List, [], _∷_, _++_}
+use native.Mathlib.Omega.{arith}
+use lib.Dec.{eqb, leb, ltb}
+use lib.ListN.{length}
+use borrow.Author.Tests.{ltb-true, ltb-false, leb-true, eqb-true}
+use Rattle.choice.specs.Pick.{pick, either, not}
+use Rattle.choice.specs.Rules.{firstBroken}
+use Rattle.choice.proofs.Picks.{both-true}
+use Rattle.headers.specs.declared.Part.{Part}
+use Rattle.elements.specs.declared.Found.{Found}
+use Rattle.elements.specs.declared.Found.the-variants.{Missing, Value, Sequence}
+use Rattle.rules.specs.Lists.{any, every}
+use Rattle.rules.specs.Values.{blank, trimmed, withoutLeading, withoutTrailing, labelByte, labelAllowed}
+use Rattle.rules.specs.Commands.{placed, bytesOf}
+use Rattle.rules.specs.Attributes.{Listing, Standing, missing, empty, wrong, fine, is, look, valueOf, mandatory, optional, given, orKept, attributeRules}
+use Rattle.standings.specs.Severity.{kindOf, severity, severityBy, optionalBy, givenBy, worse, rank, worst, statusOf}
+use Rattle.standings.proofs.Laws.{valueAt, mandatory-severity, optional-severity, given-by, worst-cons, worst-status}
+
+pub nots : (b : Bool) → bool.not b ≡ not b
+nots true = refl
+nots false = refl
+
+-- What is told of one attribute: its kind, its place, its bytes, and two tests of them.
+
+module _ (isEmpty allowed : List ℕ → Bool) (l : Listing) (f : Found) {kind n : ℕ} {p : Part} {v : List ℕ} {e a : Bool} (k : kind ≡ kindOf f) (q : p ≡ placed f) (w : v ≡ bytesOf (l .bytes) p) (x : e ≡ isEmpty v) (y : a ≡ allowed v) where
+  by-value : (by : ℕ → Bool → Bool → ℕ) → n ≡ by kind e a → n ≡ by (kindOf f) (isEmpty (valueAt l f)) (allowed (valueAt l f))
+  by-value by z = z ∙ rw (k, x, y, w, q)
+
+  pub mandatory-told : n ≡ severityBy kind e a → n ≡ severity (mandatory isEmpty allowed l f)
+  mandatory-told z = by-value severityBy z ∙ sym (mandatory-severity isEmpty allowed l f)
+
+  pub optional-told : n ≡ optionalBy kind e a → n ≡ severity (optional (mandatory isEmpty allowed l f))
+  optional-told z = by-value optionalBy z ∙ sym (optional-severity isEmpty allowed l f)
+
+pub given-told : (isEmpty : List ℕ → Bool) (l : Listing) (f : Found) {kind : ℕ} {p : Part} {v : List ℕ} {e g : Bool}
+    → kind ≡ kindOf f → p ≡ placed f → v ≡ bytesOf (l .bytes) p → e ≡ isEmpty v → g ≡ givenBy kind e → g ≡ given isEmpty l f
+given-told isEmpty l f k q w x z = z ∙ (rw (k, x, w, q) (sym (given-by isEmpty l f)))
+
+-- What an attribute gives, and what is kept where it is absent.
+
+module _ {A : Type 0} (isEmpty : List ℕ → Bool) (l : Listing) (tag : ℕ) (read : List ℕ → A) (kept : A) {g : Bool} (h : g ≡ given isEmpty l (look l tag)) where
+  pub given-read : g ≡ true → {v : List ℕ} {r : A} → v ≡ valueOf l tag → r ≡ read v → r ≡ orKept isEmpty l tag read kept
+  given-read t w x = x ∙ ap read w ∙ rw (sym h ∙ t)
+
+  pub not-given : g ≡ false → kept ≡ orKept isEmpty l tag read kept
+  not-given t = rw (sym h ∙ t)
+
+-- The worst of several.
+
+pub worst-one : (s : Standing) → worst (s ∷ []) ≡ severity s
+unfolding worst any
+worst-one missing = refl
+worst-one empty = refl
+worst-one wrong = refl
+worst-one fine = refl
+
+pub worst-next : (s : Standing) (standings : List Standing) {n m r : ℕ} → n ≡ severity s → m ≡ worst standings → r ≡ worse n m → r ≡ worst (s ∷ standings)
+worst-next s standings x y z = z ∙ rw (x, y) (sym (worst-cons s standings))
+
+pub broken-told : (standings : List Standing) {w r : ℕ} → w ≡ worst standings → r ≡ statusOf w → r ≡ firstBroken (attributeRules standings)
+broken-told standings x z = z ∙ ap statusOf x ∙ worst-status standings
+
+-- Where check 8 finds nothing.
+
+status-none : (m e w : Bool) → statusOf (rank m e w) ≡ 0 → rank m e w ≡ 0
+unfolding statusOf
+status-none true e w h = absurd (omega (arith, h))
+status-none false true w h = absurd (omega (arith, h))
+status-none false false true h = absurd (omega (arith, h))
+status-none false false false h = refl
+
+pub worst-fine : (standings : List Standing) → firstBroken (attributeRules standings) ≡ 0 → worst standings ≡ 0
+unfolding worst
+worst-fine standings h = status-none (any (is missing) standings) (any (is empty) standings) (any (is wrong) standings) (worst-status standings ∙ h)
+
+worse-none : (n m : ℕ) (t : Bool) → ltb n m ≡ t → pick t m n ≡ 0 → (n ≡ 0) × (m ≡ 0)
+worse-none n m true e h = absurd (omega (arith, ltb-true n m e, h))
+worse-none n m false e h = (h, omega (arith, ltb-false n m e, h))
+
+pub all-fine : (s : Standing) (standings : List Standing) → worst (s ∷ standings) ≡ 0 → (severity s ≡ 0) × (worst standings ≡ 0)
+unfolding worse
+all-fine s standings h = worse-none (severity s) (worst standings) (ltb (severity s) (worst standings)) refl (sym (worst-cons s standings) ∙ h)
+
+-- A label that is allowed, or absent, has its length.
+
+label-short : (v : List ℕ) (e a : Bool) → blank v ≡ e → labelAllowed v ≡ a → severity (optional (pick e empty (pick a fine wrong))) ≡ 0 → length (trimmed v) ≤ 64
+unfolding blank labelAllowed
+label-short v true a x y h = omega (arith, eqb-true (length (trimmed v)) 0 x)
+label-short v false true x y h = leb-true (length (trimmed v)) 64 (both-true (leb (length (trimmed v)) 64) (every labelByte (trimmed v)) y .0)
+label-short v false false x y h = absurd (omega (arith, h))
+
+pub label-fits : (l : Listing) (f : Found) → severity (optional (mandatory blank labelAllowed l f)) ≡ 0 → length (trimmed (valueAt l f)) ≤ 64
+unfolding bytesOf trimmed withoutLeading withoutTrailing
+label-fits l Missing h = omega arith
+label-fits l (Value p) h = label-short (bytesOf (l .bytes) p) _ _ refl refl h
+label-fits l (Sequence inside) h = omega arith
