@@ -7,18 +7,20 @@ use mathlib.Core.Bool.{Bool, true, false}
 use mathlib.Core.List.{List, [], _∷_, _++_}
 use native.Mathlib.Omega.{arith}
 use lib.Dec.{eqb, leb, ltb}
-use lib.ListN.{length}
+use lib.ListN.{length, set, drop, replicate, length-replicate, replicate-append-replicate}
+use lib.Seq.{append-snoc, set-at, drop-at}
 use borrow.Author.Tests.{ltb-true, ltb-false, leb-true, eqb-true}
 use Rattle.choice.specs.Pick.{pick, either, not}
 use Rattle.choice.specs.Rules.{firstBroken}
 use Rattle.choice.proofs.Picks.{both-true}
+use Rattle.octets.specs.Octets.{laid}
 use Rattle.headers.specs.declared.Part.{Part}
 use Rattle.elements.specs.declared.Found.{Found}
 use Rattle.elements.specs.declared.Found.the-variants.{Missing, Value, Sequence}
-use Rattle.rules.specs.Lists.{any, every}
+use Rattle.rules.specs.Lists.{any, every, filledTo}
 use Rattle.rules.specs.Values.{blank, trimmed, withoutLeading, withoutTrailing, labelByte, labelAllowed}
 use Rattle.rules.specs.Commands.{placed, bytesOf}
-use Rattle.rules.specs.Attributes.{Listing, Standing, missing, empty, wrong, fine, is, look, valueOf, mandatory, optional, given, orKept, attributeRules}
+use Rattle.rules.specs.Attributes.{Listing, Standing, missing, empty, wrong, fine, is, look, valueOf, mandatory, optional, given, orKept, attributeRules, sessionStandings, mustBeAbsent, layoutFrom}
 use Rattle.standings.specs.Severity.{kindOf, severity, severityBy, optionalBy, givenBy, worse, rank, worst, statusOf}
 use Rattle.standings.proofs.Laws.{valueAt, mandatory-severity, optional-severity, given-by, worst-cons, worst-status}
 
@@ -100,3 +102,59 @@ unfolding bytesOf trimmed withoutLeading withoutTrailing
 label-fits l Missing h = omega arith
 label-fits l (Value p) h = label-short (bytesOf (l .bytes) p) _ _ refl refl h
 label-fits l (Sequence inside) h = omega arith
+
+pub label-bound : (l : Listing) → firstBroken (attributeRules (sessionStandings l)) ≡ 0 → length (trimmed (valueOf l 0x2000_0050)) ≤ 64
+unfolding sessionStandings
+label-bound l h =
+    let destination = all-fine _ _ (all-fine _ _ (all-fine _ _ (worst-fine (sessionStandings l) h) .1) .1) .1 in
+    label-fits l (look l 0x2000_0050) (all-fine _ _ (all-fine _ _ destination .1) .0)
+
+pub fits-told : {u v t : List ℕ} → v ≡ u → t ≡ trimmed v → length (trimmed u) ≤ 64 → length t ≤ 64
+fits-told x y h = rw (y, x) h
+
+-- An attribute that must be absent.
+
+pub absent-fine : (f : Found) {kind : ℕ} → kind ≡ kindOf f → kind ≡ 0 → 0 ≡ severity (mustBeAbsent f)
+absent-fine Missing k z = refl
+absent-fine (Value p) k z = absurd (omega (arith, k, z))
+absent-fine (Sequence inside) k z = absurd (omega (arith, k, z))
+
+pub absent-wrong : (f : Found) {kind : ℕ} → kind ≡ kindOf f → (kind ≡ 0 → ⊥) → 1 ≡ severity (mustBeAbsent f)
+absent-wrong Missing k n = absurd (n k)
+absent-wrong (Value p) k n = refl
+absent-wrong (Sequence inside) k n = refl
+
+-- Bytes in front of zeros.
+
+behind-blank : (k m x : ℕ) → drop k (replicate (k + m) x) ≡ replicate m x
+behind-blank k m x = rw (← (replicate-append-replicate k m x)) (drop-at (replicate k x) (replicate m x) k (length-replicate k x))
+
+drop-blank : (n k m x : ℕ) → n ≡ k + m → drop k (replicate n x) ≡ replicate m x
+drop-blank n k m x e = rw e (behind-blank k m x)
+
+laid-blank : (n x : ℕ) (t : List ℕ) → length t ≤ n → laid (replicate n x) 0 t ≡ filledTo n x t
+laid-blank n x t h = ap (λ z. t ++ z) (drop-blank n (0 + length t) (n - length t) x (omega (arith, h)))
+
+pub label-laid : {u v t r : List ℕ} → v ≡ u → t ≡ trimmed v → length (trimmed u) ≤ 64 → r ≡ laid (replicate 64 0) 0 t → r ≡ filledTo 64 0 (trimmed v)
+label-laid {t = t} x y h z = z ∙ (laid-blank 64 0 t (fits-told x y h) ∙ ap (filledTo 64 0) y)
+
+-- Lines filled one by one, the others blank.
+
+abbrev pub linesTo : ℕ → ℕ → ℕ → List ℕ
+linesTo n k i = replicate i k ++ replicate (n - i) 0
+
+more-left : (n i : ℕ) → i < n → n - i ≡ suc (n - (i + 1))
+more-left n i h = omega (arith, h)
+
+pub lines-turn : (n k i : ℕ) → i < n → set (linesTo n k i) i k ≡ linesTo n k (i + 1)
+lines-turn n k i h =
+    ap (λ m. set (replicate i k ++ replicate m 0) i k) (more-left n i h)
+    ∙ (set-at (replicate i k) 0 (replicate (n - (i + 1)) 0) k i (length-replicate i k)
+    ∙ (sym (append-snoc (replicate i k) k (replicate (n - (i + 1)) 0))
+    ∙ ap (λ z. z ++ replicate (n - (i + 1)) 0) (replicate-append-replicate i 1 k)))
+
+pub lines-done : (n k i lines : ℕ) → i ≡ lines → linesTo n k i ≡ filledTo n 0 (replicate lines k)
+lines-done n k i lines e = rw (e, length-replicate lines k)
+
+pub layout-told : (lines boxes : ℕ) {xs counts : List ℕ} → replicate lines boxes ≡ xs → counts ≡ filledTo 6 0 (replicate lines boxes) → record { lines = lines; counts = counts } ≡ layoutFrom xs
+layout-told lines boxes e h = rw (h, ← e, length-replicate lines boxes)

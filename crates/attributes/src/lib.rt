@@ -1,16 +1,20 @@
 // Attributes: what a data set says for a session and a film, on create and on set; check 8 and the values.
 use headers::Inside;
+use rules::Film;
+use rules::Layout;
+use rules::Session;
 use standings::Attribute;
 ghost use mathlib.Core.Path.{_≡_};
 ghost use Prim.Native.Nat.{_≤_};
 ghost use lib.Dec.{eqb};
-ghost use lib.ListN.{length};
+ghost use lib.ListN.{length, replicate};
 ghost use Rattle.choice.specs.Pick.{not};
 ghost use Rattle.choice.specs.Rules.{firstBroken};
-ghost use Rattle.rules.specs.Values.{blank, countIn, labelAllowed, priorities, media, destinations};
+ghost use Rattle.rules.specs.Lists.{filledTo};
+ghost use Rattle.rules.specs.Values.{trimmed, blank, countIn, labelAllowed, codeIn, priorities, media, destinations, orientations, magnifications, countsIn};
 ghost use Rattle.rules.specs.Commands.{placed};
-ghost use Rattle.rules.specs.Attributes.{listingOf, look, mandatory, optional, code, attributeRules, sessionStandings};
-ghost use Rattle.standings.specs.Severity.{kindOf, severity};
+ghost use Rattle.rules.specs.Attributes.{listingOf, look, valueOf, mandatory, optional, given, orKept, code, attributeRules, sessionStandings, sessionWith, mustBeAbsent, optionalFilm, filmSetStandings, filmWith, layoutIn};
+ghost use Rattle.standings.specs.Severity.{kindOf, severity, worst};
 
 const COPIES: usize = 0x2000_0010;
 
@@ -22,6 +26,14 @@ const DESTINATION: usize = 0x2000_0040;
 
 const LABEL: usize = 0x2000_0050;
 
+const FORMAT: usize = 0x2010_0010;
+
+const ORIENTATION: usize = 0x2010_0040;
+
+const MAGNIFICATION: usize = 0x2010_0060;
+
+const REFERENCE: usize = 0x2010_0500;
+
 // What the data set itself holds under a tag.
 fn look(d: &[u8], explicit: bool, tag: usize) -> Attribute
     ensures { λ r. ⌜ (r .kind ≡ kindOf (look (listingOf (now (d .entry)) explicit) tag)) × (r .value ≡ placed (look (listingOf (now (d .entry)) explicit) tag)) × (r .value .from ≤ r .value .stop) × (r .value .stop ≤ length (now (d .entry))) ⌝ }
@@ -32,6 +44,23 @@ fn look(d: &[u8], explicit: bool, tag: usize) -> Attribute
         loose: false,
     };
     standings::look(d, explicit, 4, whole, tag)
+}
+
+// Its bytes, none where there is no value.
+fn value_of(d: &[u8], explicit: bool, tag: usize) -> &[u8]
+    ensures { λ r. ⌜ now r ≡ valueOf (listingOf (now (d .entry)) explicit) tag ⌝ }
+{
+    let at = look(d, explicit, tag);
+    standings::value(d, at.value)
+}
+
+// Whether it is there, with a text that is not blank.
+fn is_given(d: &[u8], explicit: bool, tag: usize) -> bool
+    ensures { λ r. ⌜ r ≡ given blank (listingOf (now (d .entry)) explicit) (look (listingOf (now (d .entry)) explicit) tag) ⌝ }
+{
+    let at = look(d, explicit, tag);
+    let v = standings::value(d, at.value);
+    standings::is_given(at.kind, values::is_blank(v))
 }
 
 fn copies_severity(d: &[u8], explicit: bool) -> u8
@@ -84,4 +113,194 @@ pub fn session_broken(d: &[u8], explicit: bool) -> u16
     worst = standings::worse(priority_severity(d, explicit), worst);
     worst = standings::worse(copies_severity(d, explicit), worst);
     standings::status_of(worst)
+}
+
+// What the data set gives, or what is kept where it gives nothing.
+fn copies_or(d: &[u8], explicit: bool, kept: u8) -> u8
+    ensures { λ r. ⌜ r ≡ orKept blank (listingOf (now (d .entry)) explicit) 0x2000_0010 (countIn 99) kept ⌝ }
+{
+    if is_given(d, explicit, COPIES) {
+        return values::count_in(value_of(d, explicit, COPIES), 99) as u8;
+    }
+    kept
+}
+
+fn priority_or(d: &[u8], explicit: bool, kept: u8) -> u8
+    ensures { λ r. ⌜ r ≡ orKept blank (listingOf (now (d .entry)) explicit) 0x2000_0020 (codeIn priorities) kept ⌝ }
+{
+    if is_given(d, explicit, PRIORITY) {
+        return values::priority_in(value_of(d, explicit, PRIORITY)) as u8;
+    }
+    kept
+}
+
+fn medium_or(d: &[u8], explicit: bool, kept: u8) -> u8
+    ensures { λ r. ⌜ r ≡ orKept blank (listingOf (now (d .entry)) explicit) 0x2000_0030 (codeIn media) kept ⌝ }
+{
+    if is_given(d, explicit, MEDIUM) {
+        return values::medium_in(value_of(d, explicit, MEDIUM)) as u8;
+    }
+    kept
+}
+
+fn destination_or(d: &[u8], explicit: bool, kept: u8) -> u8
+    ensures { λ r. ⌜ r ≡ orKept blank (listingOf (now (d .entry)) explicit) 0x2000_0040 (codeIn destinations) kept ⌝ }
+{
+    if is_given(d, explicit, DESTINATION) {
+        return values::destination_in(value_of(d, explicit, DESTINATION)) as u8;
+    }
+    kept
+}
+
+fn label_length_or(d: &[u8], explicit: bool, kept: u8) -> u8
+    requires { ⌜ length (trimmed (valueOf (listingOf (now d) explicit) 0x2000_0050)) ≤ 64 ⌝ }
+    ensures { λ r. ⌜ r ≡ orKept blank (listingOf (now (d .entry)) explicit) 0x2000_0050 (λ v. length (trimmed v)) kept ⌝ }
+{
+    if is_given(d, explicit, LABEL) {
+        return values::trimmed(value_of(d, explicit, LABEL)).len() as u8;
+    }
+    kept
+}
+
+fn label_or(d: &[u8], explicit: bool, kept: [u8; 64]) -> [u8; 64]
+    requires { ⌜ length (trimmed (valueOf (listingOf (now d) explicit) 0x2000_0050)) ≤ 64 ⌝ }
+    ensures { λ r. ⌜ r ≡ orKept blank (listingOf (now (d .entry)) explicit) 0x2000_0050 (λ v. filledTo 64 0 (trimmed v)) kept ⌝ }
+{
+    if is_given(d, explicit, LABEL) {
+        let mut label = [0; 64];
+        octets::put(&mut label, 0, values::trimmed(value_of(d, explicit, LABEL)));
+        return label;
+    }
+    kept
+}
+
+// A session with what the data set gives.
+pub fn session_with(d: &[u8], explicit: bool, s: Session) -> Session
+    requires { ⌜ firstBroken (attributeRules (sessionStandings (listingOf (now d) explicit))) ≡ 0 ⌝ }
+    ensures { λ r. ⌜ r ≡ sessionWith (listingOf (now (d .entry)) explicit) s ⌝ }
+{
+    let name = s.name;
+    let label = s.label;
+    Session {
+        live: s.live,
+        name,
+        copies: copies_or(d, explicit, s.copies),
+        priority: priority_or(d, explicit, s.priority),
+        medium: medium_or(d, explicit, s.medium),
+        destination: destination_or(d, explicit, s.destination),
+        used: label_length_or(d, explicit, s.used),
+        label: label_or(d, explicit, label),
+    }
+}
+
+fn orientation_severity(d: &[u8], explicit: bool) -> u8
+    ensures { λ r. ⌜ r ≡ severity (optional (code orientations (listingOf (now (d .entry)) explicit) 0x2010_0040)) ⌝ }
+{
+    let at = look(d, explicit, ORIENTATION);
+    let v = standings::value(d, at.value);
+    standings::optional_severity(at.kind, values::is_blank(v), values::orientation_in(v) < 2)
+}
+
+fn magnification_severity(d: &[u8], explicit: bool) -> u8
+    ensures { λ r. ⌜ r ≡ severity (optional (code magnifications (listingOf (now (d .entry)) explicit) 0x2010_0060)) ⌝ }
+{
+    let at = look(d, explicit, MAGNIFICATION);
+    let v = standings::value(d, at.value);
+    standings::optional_severity(
+        at.kind,
+        values::is_blank(v),
+        values::magnification_in(v) < 4,
+    )
+}
+
+fn optional_film(d: &[u8], explicit: bool) -> u8
+    ensures { λ r. ⌜ r ≡ worst (optionalFilm (listingOf (now (d .entry)) explicit)) ⌝ }
+{
+    standings::worse(
+        orientation_severity(d, explicit),
+        magnification_severity(d, explicit),
+    )
+}
+
+// "even empty"
+fn presence_severity(d: &[u8], explicit: bool, tag: usize) -> u8
+    ensures { λ r. ⌜ r ≡ severity (mustBeAbsent (look (listingOf (now (d .entry)) explicit) tag)) ⌝ }
+{
+    let at = look(d, explicit, tag);
+    if at.kind == 0 {
+        return 0;
+    }
+    1
+}
+
+// Check 8 of a film on set.
+pub fn film_set_broken(d: &[u8], explicit: bool) -> u16
+    ensures { λ r. ⌜ r ≡ firstBroken (attributeRules (filmSetStandings (listingOf (now (d .entry)) explicit))) ⌝ }
+{
+    let mut worst = optional_film(d, explicit);
+    worst = standings::worse(presence_severity(d, explicit, REFERENCE), worst);
+    worst = standings::worse(presence_severity(d, explicit, FORMAT), worst);
+    standings::status_of(worst)
+}
+
+fn orientation_or(d: &[u8], explicit: bool, kept: u8) -> u8
+    ensures { λ r. ⌜ r ≡ orKept blank (listingOf (now (d .entry)) explicit) 0x2010_0040 (codeIn orientations) kept ⌝ }
+{
+    if is_given(d, explicit, ORIENTATION) {
+        return values::orientation_in(value_of(d, explicit, ORIENTATION)) as u8;
+    }
+    kept
+}
+
+fn magnification_or(d: &[u8], explicit: bool, kept: u8) -> u8
+    ensures { λ r. ⌜ r ≡ orKept blank (listingOf (now (d .entry)) explicit) 0x2010_0060 (codeIn magnifications) kept ⌝ }
+{
+    if is_given(d, explicit, MAGNIFICATION) {
+        return values::magnification_in(value_of(d, explicit, MAGNIFICATION)) as u8;
+    }
+    kept
+}
+
+// A film with what the data set gives.
+pub fn film_with(d: &[u8], explicit: bool, f: Film) -> Film
+    ensures { λ r. ⌜ r ≡ filmWith (listingOf (now (d .entry)) explicit) f ⌝ }
+{
+    let name = f.name;
+    let layout = f.layout;
+    let first = f.first;
+    let boxes = f.boxes;
+    Film {
+        name,
+        layout,
+        orientation: orientation_or(d, explicit, f.orientation),
+        magnification: magnification_or(d, explicit, f.magnification),
+        first,
+        boxes,
+    }
+}
+
+// So many lines of so many boxes.
+fn lines_of(lines: u8, boxes: u8) -> [u8; 6]
+    requires { ⌜ lines ≤ 6 ⌝ }
+    ensures { λ r. ⌜ r ≡ filledTo 6 0 (replicate lines boxes) ⌝ }
+{
+    let n = lines as usize;
+    let mut counts = [0; 6];
+    let mut i = 0;
+    while i < n {
+        counts[i] = boxes;
+        i += 1;
+    }
+    counts
+}
+
+// The layout that Format gives.
+pub fn layout_in(d: &[u8], explicit: bool) -> Layout
+    ensures { λ r. ⌜ r ≡ layoutIn (listingOf (now (d .entry)) explicit) ⌝ }
+{
+    let grid = values::counts_in(value_of(d, explicit, FORMAT));
+    Layout {
+        lines: grid.lines,
+        counts: lines_of(grid.lines, grid.boxes),
+    }
 }
