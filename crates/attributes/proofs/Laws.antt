@@ -7,8 +7,8 @@ use mathlib.Core.Bool.{Bool, true, false}
 use mathlib.Core.List.{List, [], _∷_, _++_}
 use native.Mathlib.Omega.{arith}
 use lib.Dec.{eqb, leb, ltb}
-use lib.ListN.{length, set, drop, replicate, length-replicate, replicate-append-replicate}
-use lib.Seq.{append-snoc, set-at, drop-at}
+use lib.ListN.{length, set, take, drop, replicate, length-replicate, replicate-append-replicate}
+use lib.Seq.{take-append-seam, append-snoc, set-at, drop-at}
 use borrow.Author.Tests.{ltb-true, ltb-false, leb-true, eqb-true}
 use Rattle.choice.specs.Pick.{pick, either, not}
 use Rattle.choice.specs.Rules.{firstBroken}
@@ -64,6 +64,43 @@ worst-one fine = refl
 
 pub worst-next : (s : Standing) (standings : List Standing) {n m r : ℕ} → n ≡ severity s → m ≡ worst standings → r ≡ worse n m → r ≡ worst (s ∷ standings)
 worst-next s standings x y z = z ∙ rw (x, y) (sym (worst-cons s standings))
+
+rank-either : (a b c m e w : Bool) → rank (either a m) (either b e) (either c w) ≡ worse (rank a b c) (rank m e w)
+unfolding worse
+rank-either true b c true e w = refl
+rank-either true b c false true w = refl
+rank-either true b c false false true = refl
+rank-either true b c false false false = refl
+rank-either false true c true e w = refl
+rank-either false true c false true w = refl
+rank-either false true c false false true = refl
+rank-either false true c false false false = refl
+rank-either false false true true e w = refl
+rank-either false false true false true w = refl
+rank-either false false true false false true = refl
+rank-either false false true false false false = refl
+rank-either false false false true e w = refl
+rank-either false false false false true w = refl
+rank-either false false false false false true = refl
+rank-either false false false false false false = refl
+
+any-either : (t a b c : Bool) → a ≡ either b c → either t a ≡ either (either t b) c
+any-either true a b c e = refl
+any-either false a b c e = e
+
+any-append : (test : Standing → Bool) (xs ys : List Standing) → any test (xs ++ ys) ≡ either (any test xs) (any test ys)
+unfolding any
+any-append test [] ys = refl
+any-append test (x ∷ xs) ys = any-either (test x) (any test (xs ++ ys)) (any test xs) (any test ys) (any-append test xs ys)
+
+worst-append : (xs ys : List Standing) → worst (xs ++ ys) ≡ worse (worst xs) (worst ys)
+unfolding worst
+worst-append xs ys =
+    rw (any-append (is missing) xs ys, any-append (is empty) xs ys, any-append (is wrong) xs ys)
+    (rank-either (any (is missing) xs) (any (is empty) xs) (any (is wrong) xs) (any (is missing) ys) (any (is empty) ys) (any (is wrong) ys))
+
+pub worst-both : (xs ys : List Standing) {n m r : ℕ} → n ≡ worst xs → m ≡ worst ys → r ≡ worse n m → r ≡ worst (xs ++ ys)
+worst-both xs ys x y z = z ∙ rw (x, y) (sym (worst-append xs ys))
 
 pub broken-told : (standings : List Standing) {w r : ℕ} → w ≡ worst standings → r ≡ statusOf w → r ≡ firstBroken (attributeRules standings)
 broken-told standings x z = z ∙ ap statusOf x ∙ worst-status standings
@@ -158,3 +195,14 @@ lines-done n k i lines e = rw (e, length-replicate lines k)
 
 pub layout-told : (lines boxes : ℕ) {xs counts : List ℕ} → replicate lines boxes ≡ xs → counts ≡ filledTo 6 0 (replicate lines boxes) → record { lines = lines; counts = counts } ≡ layoutFrom xs
 layout-told lines boxes e h = rw (h, ← e, length-replicate lines boxes)
+
+-- The front of bytes.
+
+pub front-of : (s : List ℕ) (n : ℕ) → take (n - 0) (drop 0 s) ≡ take n s
+front-of s n = let e : n - 0 ≡ n = omega arith in ap (λ m. take m s) e
+
+-- what was laid in front stands there
+pub front-laid : (s out bytes : List ℕ) (n : ℕ) → out ≡ laid s 0 bytes → n ≡ 0 + length bytes → take (n - 0) (drop 0 out) ≡ bytes
+front-laid s out bytes n e h =
+    let g : n ≡ length bytes = omega arith in
+    front-of out n ∙ ap (take n) e ∙ ap (λ m. take m (laid s 0 bytes)) g ∙ take-append-seam bytes (drop (0 + length bytes) s)

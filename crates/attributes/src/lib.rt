@@ -1,19 +1,30 @@
 // Attributes: what a data set says for a session and a film, on create and on set; check 8 and the values.
+use elements::Found;
+use elements::Items;
 use headers::Inside;
+use rules::Core;
 use rules::Film;
 use rules::Layout;
+use rules::Name;
+use rules::Numbers;
 use rules::Session;
 use standings::Attribute;
 ghost use mathlib.Core.Path.{_≡_};
 ghost use Prim.Native.Nat.{_≤_};
 ghost use lib.Dec.{eqb};
-ghost use lib.ListN.{length, replicate};
-ghost use Rattle.choice.specs.Pick.{not};
+ghost use lib.ListN.{length, take, replicate};
+ghost use Rattle.choice.specs.Pick.{both, not};
 ghost use Rattle.choice.specs.Rules.{firstBroken};
+ghost use Rattle.octets.specs.Octets.{same};
+ghost use Rattle.uids.specs.Uids.{isUid, unpadded, made};
+ghost use Rattle.elements.specs.declared.Items.the-variants.{One};
+ghost use Rattle.elements.specs.Find.{itemsAt};
+ghost use Rattle.rules.specs.Text.{sessionClass};
 ghost use Rattle.rules.specs.Lists.{filledTo};
 ghost use Rattle.rules.specs.Values.{trimmed, blank, countIn, labelAllowed, codeIn, priorities, media, destinations, orientations, magnifications, countsIn};
+ghost use Rattle.rules.specs.Records.{uidOf, isLive};
 ghost use Rattle.rules.specs.Commands.{placed};
-ghost use Rattle.rules.specs.Attributes.{listingOf, look, valueOf, mandatory, optional, given, orKept, code, attributeRules, sessionStandings, sessionWith, mustBeAbsent, optionalFilm, filmSetStandings, filmWith, layoutIn};
+ghost use Rattle.rules.specs.Attributes.{listingOf, look, valueOf, mandatory, optional, given, orKept, code, uid, onlyItem, attributeRules, sessionStandings, sessionWith, mustBeAbsent, referenceStandings, reference, optionalFilm, filmCreateStandings, filmSetStandings, filmWith, layoutIn};
 ghost use Rattle.standings.specs.Severity.{kindOf, severity, worst};
 
 const COPIES: usize = 0x2000_0010;
@@ -33,6 +44,10 @@ const ORIENTATION: usize = 0x2010_0040;
 const MAGNIFICATION: usize = 0x2010_0060;
 
 const REFERENCE: usize = 0x2010_0500;
+
+const REFERENCED_CLASS: usize = 0x0008_1150;
+
+const REFERENCED_INSTANCE: usize = 0x0008_1155;
 
 // What the data set itself holds under a tag.
 fn look(d: &[u8], explicit: bool, tag: usize) -> Attribute
@@ -303,4 +318,146 @@ pub fn layout_in(d: &[u8], explicit: bool) -> Layout
         lines: grid.lines,
         counts: lines_of(grid.lines, grid.boxes),
     }
+}
+
+fn format_severity(d: &[u8], explicit: bool) -> u8
+    ensures { λ r. ⌜ r ≡ severity (mandatory blank (λ v. not (eqb (length (countsIn v)) 0)) (listingOf (now (d .entry)) explicit) (look (listingOf (now (d .entry)) explicit) 0x2010_0010)) ⌝ }
+{
+    let at = look(d, explicit, FORMAT);
+    let v = standings::value(d, at.value);
+    let grid = values::counts_in(v);
+    standings::severity(at.kind, values::is_blank(v), grid.lines != 0)
+}
+
+// A UI value without its padding.
+fn unpadded(v: &[u8]) -> &[u8]
+    ensures { λ r. ⌜ now r ≡ unpadded (now (v .entry)) ⌝ }
+{
+    let n = uids::unpadded_length(v);
+    &v[0..n]
+}
+
+fn is_session_class(u: &[u8]) -> bool
+    ensures { λ r. ⌜ r ≡ both (isUid (now (u .entry))) (same sessionClass (now (u .entry))) ⌝ }
+{
+    if !uids::is_uid(u) {
+        return false;
+    }
+    octets::same_bytes(b"1.2.840.10008.5.1.1.1", u)
+}
+
+// The first n bytes, or all where there are fewer.
+fn front(s: &[u8], n: usize) -> &[u8]
+    ensures { λ r. ⌜ now r ≡ take n (now (s .entry)) ⌝ }
+{
+    if n < s.len() {
+        return &s[0..n];
+    }
+    s
+}
+
+// Whether a UID is the one made of a root and a serial.
+fn is_made(root: &[u8], serial: u32, uid: &[u8]) -> bool
+    requires { ⌜ length (now root) ≤ 40 ⌝ }
+    ensures { λ r. ⌜ r ≡ same (now (uid .entry)) (made (now (root .entry)) serial) ⌝ }
+{
+    let mut out = [0; 64];
+    let end = uids::put_made(&mut out, 0, root, serial);
+    octets::same_bytes(uid, &out[0..end])
+}
+
+// Whether a UID is the one that a name stands for.
+fn is_named(n: Numbers, name: Name, uid: &[u8]) -> bool
+    requires { ⌜ n .used ≤ 40 ⌝ }
+    ensures { λ r. ⌜ r ≡ same (now (uid .entry)) (uidOf n name) ⌝ }
+{
+    let serial = name.made;
+    if serial.0 == 0 {
+        let text = name.text;
+        return octets::same_bytes(uid, front(&text, name.used as usize));
+    }
+    let root = n.root;
+    is_made(front(&root, n.used as usize), serial.0, uid)
+}
+
+// "naming the live session"
+fn is_session(n: Numbers, s: Session, u: &[u8]) -> bool
+    requires { ⌜ n .used ≤ 40 ⌝ }
+    ensures { λ r. ⌜ r ≡ both (isUid (now (u .entry))) (both (isLive s) (same (now (u .entry)) (uidOf n (s .name)))) ⌝ }
+{
+    if !uids::is_uid(u) {
+        return false;
+    }
+    if s.live == 0 {
+        return false;
+    }
+    let name = s.name;
+    is_named(n, name, u)
+}
+
+fn class_severity(d: &[u8], explicit: bool, inside: Inside) -> u8
+    requires { ⌜ (inside .from ≤ inside .stop) × (inside .stop ≤ length (now d)) ⌝ }
+    ensures { λ r. ⌜ r ≡ severity (uid (same sessionClass) (onlyItem (listingOf (now (d .entry)) explicit) inside) 0x0008_1150) ⌝ }
+{
+    let at = standings::look(d, explicit, 3, inside, REFERENCED_CLASS);
+    let v = standings::value(d, at.value);
+    standings::severity(at.kind, v.len() == 0, is_session_class(unpadded(v)))
+}
+
+fn instance_severity(n: Numbers, s: Session, d: &[u8], explicit: bool, inside: Inside) -> u8
+    requires { ⌜ (n .used ≤ 40) × (inside .from ≤ inside .stop) × (inside .stop ≤ length (now d)) ⌝ }
+    ensures { λ r. ⌜ r ≡ severity (uid (λ u. both (isLive s) (same u (uidOf n (s .name)))) (onlyItem (listingOf (now (d .entry)) explicit) inside) 0x0008_1155) ⌝ }
+{
+    let at = standings::look(d, explicit, 3, inside, REFERENCED_INSTANCE);
+    let v = standings::value(d, at.value);
+    standings::severity(at.kind, v.len() == 0, is_session(n, s, unpadded(v)))
+}
+
+// The only item of the reference.
+fn item_severity(k: Core, d: &[u8], explicit: bool, inside: Inside) -> u8
+    requires { ⌜ (k .numbers .used ≤ 40) × (inside .from ≤ inside .stop) × (inside .stop ≤ length (now d)) ⌝ }
+    ensures { λ r. ⌜ r ≡ worst (referenceStandings k (listingOf (now (d .entry)) explicit) (One inside)) ⌝ }
+{
+    let numbers = k.numbers;
+    let session = k.session;
+    let instance = instance_severity(numbers, session, d, explicit, inside);
+    standings::worse(class_severity(d, explicit, inside), instance)
+}
+
+fn sequence_severity(k: Core, d: &[u8], explicit: bool, inside: Inside) -> u8
+    requires { ⌜ (k .numbers .used ≤ 40) × (inside .from ≤ inside .stop) × (inside .stop ≤ length (now d)) ⌝ }
+    ensures { λ r. ⌜ r ≡ worst (referenceStandings k (listingOf (now (d .entry)) explicit) (itemsAt (now (d .entry)) explicit 3 inside)) ⌝ }
+{
+    match elements::items_in(d, explicit, 3, inside) {
+        Items::Empty => 2,
+        Items::One(item) => item_severity(k, d, explicit, item),
+        Items::Several(_) => 1,
+    }
+}
+
+fn reference_severity(k: Core, d: &[u8], explicit: bool) -> u8
+    requires { ⌜ k .numbers .used ≤ 40 ⌝ }
+    ensures { λ r. ⌜ r ≡ worst (reference k (listingOf (now (d .entry)) explicit) (look (listingOf (now (d .entry)) explicit) 0x2010_0500)) ⌝ }
+{
+    let whole = Inside {
+        from: 0,
+        stop: d.len(),
+        loose: false,
+    };
+    match elements::find(d, explicit, 4, whole, REFERENCE) {
+        Found::Missing => 3,
+        Found::Value(_) => 1,
+        Found::Sequence(inside) => sequence_severity(k, d, explicit, inside),
+    }
+}
+
+// Check 8 of a film on create.
+pub fn film_create_broken(k: Core, d: &[u8], explicit: bool) -> u16
+    requires { ⌜ k .numbers .used ≤ 40 ⌝ }
+    ensures { λ r. ⌜ r ≡ firstBroken (attributeRules (filmCreateStandings k (listingOf (now (d .entry)) explicit))) ⌝ }
+{
+    let mut worst = optional_film(d, explicit);
+    worst = standings::worse(reference_severity(k, d, explicit), worst);
+    worst = standings::worse(format_severity(d, explicit), worst);
+    standings::status_of(worst)
 }

@@ -1,0 +1,23 @@
+use mathlib.Core.Path.{sym, ap, _∙_}
+use lib.Dec.{eqb}
+use lib.ListN.{length, length-replicate}
+use Rattle.choice.specs.Pick.{not}
+use Rattle.rules.specs.Values.{blank, countsIn}
+use Rattle.rules.specs.Attributes.{listingOf, look}
+use Rattle.attributes.proofs.Laws.{nots, mandatory-told}
+use borrow.Author.Needs.{needs}
+use Rattle.attributes.proofs.format_severity.Statement.{statement}
+use Rattle.attributes.proofs.format_severity.Tie as tie
+
+returns : tie.Need-returns
+returns c =
+    let a = c .before .before .before .before .before .before .before .args in
+    let l = listingOf (a .d .now) (a .explicit) in
+    let at = c .before .before .before .before .before .look .ensures in
+    let grid = c .before .before .before .counts-in in
+    mandatory-told blank (λ v. not (eqb (length (countsIn v)) 0)) l (look l 0x2010_0010) (at .0) (at .1) (c .before .before .before .before .value .ensures) (c .before .before .is-blank .ensures)
+    (nots (eqb (grid .result .lines) 0) ∙ ap (λ n. not (eqb n 0)) (sym (length-replicate (grid .result .lines) (grid .result .boxes)) ∙ ap length (grid .ensures .0)))
+    (c .severity .ensures)
+
+pub format-severity-spec : {M : Type 1} → statement M
+format-severity-spec = tie.close (tie.spec (λ c κs. search needs) (λ c κs. search needs) (λ c κs. search needs) (λ c κs. search needs) (λ c κs. search needs) returns)

@@ -1,0 +1,45 @@
+use Prim.Native.Nat.{_+_}
+use mathlib.Core.Path.{sym, ap, subst, _∙_}
+use native.Mathlib.Omega.{arith}
+use lib.ListN.{length}
+use Rattle.elements.specs.Reader.{whole}
+use Rattle.elements.proofs.Within.{FoundIn}
+use Rattle.elements.proofs.Laws.{find-within}
+use Rattle.rules.specs.Attributes.{missing, wrong, listingOf, reference}
+use Rattle.standings.specs.Severity.{worst}
+use Rattle.attributes.proofs.Laws.{worst-one}
+use borrow.Author.Needs.{needs}
+use Rattle.attributes.proofs.reference_severity.Statement.{statement}
+use Rattle.attributes.proofs.reference_severity.Tie as tie
+
+sequence-severity-requires : tie.Need-sequence-severity-requires
+sequence-severity-requires c κs =
+    let start = c .before .before .before .before .before in
+    let a = start .args in
+    let g = subst (FoundIn (0 + 8) (length (a .d .now))) (sym (c .before .before .before .find .ensures) ∙ c .before .inside .given .1) (find-within (a .d .now) (a .explicit) 4 (whole (a .d .now)) 0x2010_0500 (omega arith)) in
+    (start .pre, g .1 .0, g .1 .1)
+
+returns : tie.Need-returns
+returns c = let a = c .before .before .before .before .args in
+    sym (worst-one missing) ∙ ap (λ f. worst (reference (a .k) (listingOf (a .d .now) (a .explicit)) f)) (sym (sym (c .before .before .find .ensures) ∙ c .enum-told .given .1))
+
+returns-2 : tie.Need-returns-2
+returns-2 c = let a = c .before .before .before .before .args in
+    sym (worst-one wrong) ∙ ap (λ f. worst (reference (a .k) (listingOf (a .d .now) (a .explicit)) f)) (sym (sym (c .before .before .find .ensures) ∙ c .enum-told2 .given .1))
+
+returns-3 : tie.Need-returns-3
+returns-3 c = let a = c .before .before .before .before .before .before .args in
+    c .sequence-severity .ensures ∙ ap (λ f. worst (reference (a .k) (listingOf (a .d .now) (a .explicit)) f)) (sym (sym (c .before .before .before .before .find .ensures) ∙ c .before .before .inside .given .1))
+
+pub reference-severity-spec : {M : Type 1} → statement M
+reference-severity-spec =
+    tie.close
+    (tie.spec
+    (λ c κs. search needs)
+    (λ c. search needs)
+    (λ c. search needs)
+    (λ c. search needs)
+    sequence-severity-requires
+    returns
+    returns-2
+    returns-3)
