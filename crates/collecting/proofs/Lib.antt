@@ -1,0 +1,4 @@
+-- Laws of headers, of a command that is filled up, and of what a fragment comes to.
+mod Headers
+mod Filled
+pub mod Outcomes

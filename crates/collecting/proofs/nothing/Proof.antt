@@ -1,0 +1,9 @@
+use borrow.Author.Needs.{needs}
+use Rattle.collecting.proofs.nothing.Statement.{statement}
+use Rattle.collecting.proofs.nothing.Tie as tie
+
+returns : tie.Need-returns
+returns c = rw (c .number .ensures)
+
+pub nothing-spec : {M : Type 1} → statement M
+nothing-spec = tie.close (tie.spec (λ c κs. search needs) returns)
