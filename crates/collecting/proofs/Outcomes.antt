@@ -1,13 +1,14 @@
 -- What a fragment comes to, by the state that it is met in and the next one.
 -- Assumes nothing.
-use Prim.Native.Nat.{ℕ, _+_, _≤_, _<_}
+use Prim.Native.Nat.{ℕ, _+_, _-_, _≤_, _<_}
 use mathlib.Core.Path.{_≡_, refl, sym, ap, _∙_}
 use mathlib.Core.Bool.{Bool, true, false}
 use mathlib.Core.List.{List, [], _++_}
 use lib.Dec.{eqb, leb}
-use lib.ListN.{length, take, length-append}
+use lib.ListN.{length, take, drop, length-append, length-drop}
 use borrow.Author.Tests.{leb-true, le-leb, lt-leb}
-use lib.Seq.{length-take-le}
+use lib.Seq.{length-take-le, take-all}
+use native.Mathlib.Omega.{arith}
 use Rattle.choice.specs.Pick.{pick}
 use Rattle.choice.proofs.Picks.{clash}
 use Rattle.strike.specs.Service.{Reading, unreadable, alone, withData}
@@ -27,7 +28,7 @@ use Rattle.collecting.specs.declared.Collecting.the-variants.{Idle, InCo
 use Rattle.collecting.specs.declared.Answer.{Answer}
 use Rattle.collecting.specs.declared.Reads.{Reads}
 use Rattle.collecting.proofs.Filled.{used-length}
-use Rattle.collecting.specs.Collecting.{Filled, storedIn, readsOf, readTo, stateOf, gathersTo, storesTo, commandNext, dataNext, commandBefore, holds, kept, collectedOf, storeAnswer, overflowAnswer, inputBy, byNext, gatheredIn}
+use Rattle.collecting.specs.Collecting.{ofCommand, isLast, fragmentOf, Filled, storedIn, readsOf, readTo, stateOf, gathersTo, storesTo, commandNext, dataNext, commandBefore, holds, kept, collectedOf, storeAnswer, overflowAnswer, inputBy, byNext, gatheredIn}
 
 -- What a whole command says.
 
@@ -220,3 +221,22 @@ module _ (room : ℕ) (i : Input) (message bytes : List ℕ) (last : Bool) {x : 
 
   pub laid-arm : laidBy room (inputIn i message) (dataset last bytes) message ≡ laidBy room (inputBy x i message) (dataset last bytes) message
   laid-arm = ap (λ (y : machine.Input). laidBy room y (dataset last bytes) message) met
+
+-- A fragment behind its header.
+
+pub whole-part : (f : List ℕ) → take (length f - 6) (drop 6 f) ≡ drop 6 f
+whole-part f = take-all (length f - 6) (drop 6 f) (omega (arith, length-drop 6 f))
+
+pub fragment-of : (f : List ℕ) (t last : Bool) (bytes : List ℕ) → ofCommand f ≡ t → last ≡ isLast f → bytes ≡ drop 6 f → pick t command dataset last bytes ≡ fragmentOf f
+fragment-of f t last bytes e l b =
+    ap (λ (x : Bool). pick t command dataset x bytes) l
+    ∙ ap (λ (x : List ℕ). pick t command dataset (isLast f) x) b
+    ∙ sym (ap (λ (x : Bool). pick x command dataset (isLast f) (drop 6 f)) e)
+
+pub laid-command : (room : ℕ) (x : machine.Input) (last : Bool) (bytes message : List ℕ) → laidBy room x (command last bytes) message ≡ message
+unfolding laidBy
+laid-command room idle last bytes message = refl
+laid-command room (inCommand c) last bytes message = refl
+laid-command room skippingCommand last bytes message = refl
+laid-command room (inData c d) last bytes message = refl
+laid-command room (skippingData c) last bytes message = refl

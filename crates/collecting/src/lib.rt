@@ -335,6 +335,21 @@ fn stored(i: Input, message: &mut [u8], bytes: &[u8], last: bool) -> Collected
     holding(store_answer(last), next, i, got + bytes.len())
 }
 
+// A data fragment: what it comes to, by the state that it is met in.
+fn by_data(i: Input, message: &mut [u8], bytes: &[u8], last: bool) -> Collected
+    requires { ⌜ Filled i × (i .got ≤ length (now message)) × (length (now message) < 4294967296) ⌝ }
+    ensures { λ r. ⌜ (r ≡ collectedOf (collect reading (length (now (message .entry))) (inputIn i (now (message .entry))) (dataset last (now (bytes .entry))))) × (now (message .exit) ≡ laidBy (length (now (message .entry))) (inputIn i (now (message .entry))) (dataset last (now (bytes .entry))) (now (message .entry))) ⌝ }
+{
+    let state = Collecting::of(i.phase);
+    match state {
+        Collecting::Idle => nothing(Answer::Ignored, Collecting::Idle),
+        Collecting::InCommand => nothing(Answer::Dropped, Collecting::Idle),
+        Collecting::SkippingCommand => nothing(Answer::Dropped, Collecting::Idle),
+        Collecting::InData => stored(i, message, bytes, last),
+        Collecting::SkippingData => overflowed(i, last),
+    }
+}
+
 // Whether the header is wrong; n is compared with what is left behind it, so that nothing is added to it.
 pub fn header_wrong(context: u8, fragment: &[u8]) -> bool
     ensures { λ r. ⌜ r ≡ headerWrong context (now (fragment .entry)) ⌝ }
@@ -373,3 +388,15 @@ fn is_last(fragment: &[u8]) -> bool
     fragment[5] / 2 % 2 == 1
 }
 
+// A fragment whose header is not wrong: what it comes to, and its data in the message buffer.
+pub fn collect(i: Input, message: &mut [u8], fragment: &[u8]) -> Collected
+    requires { ⌜ Filled i × (i .got ≤ length (now message)) × (length (now message) < 4294967296) × (6 ≤ length (now fragment)) ⌝ }
+    ensures { λ r. ⌜ (r ≡ collectedOf (collect reading (length (now (message .entry))) (inputIn i (now (message .entry))) (fragmentOf (now (fragment .entry))))) × (now (message .exit) ≡ laidBy (length (now (message .entry))) (inputIn i (now (message .entry))) (fragmentOf (now (fragment .entry))) (now (message .entry))) ⌝ }
+{
+    let last = is_last(fragment);
+    if is_command(fragment) {
+        by_command(i, &fragment[6..], last)
+    } else {
+        by_data(i, message, &fragment[6..], last)
+    }
+}

@@ -29,7 +29,6 @@ returns-3 c =
     c .holding2 .ensures ∙ holds-filled Wait InData (a .args .i) 0 (a .pre)
     ∙ sym (read-arm (a .args .i) (sym (simp unary-clauses at (c .before .before .before .read-as .ensures)) ∙ c .before .enum-told3 .given .1))
 
-
 pub read-spec : {M : Type 1} → statement M
 read-spec =
     tie.close

@@ -9,17 +9,19 @@ use Rattle.collecting.proofs.stored.Tie as tie
 returns : tie.Need-returns
 returns c =
     let a = c .before .before .before .before .before in
-    let i = a .args .i in
-    (c .overflowed .ensures ∙ stored-over i (now (a .args .message)) (now (a .args .bytes)) (a .args .last) (a .pre .1) (omega (arith, c .before .if1 .taken))
-    , stored-none (i .got) (now (a .args .message)) (now (a .args .bytes)) (omega (arith, c .before .if1 .taken)))
+    let i = a .args .i in (
+      c .overflowed .ensures ∙ stored-over i (now (a .args .message)) (now (a .args .bytes)) (a .args .last) (a .pre .1) (omega (arith, c .before .if1 .taken)),
+      stored-none (i .got) (now (a .args .message)) (now (a .args .bytes)) (omega (arith, c .before .if1 .taken)),
+    )
 
 returns-2 : tie.Need-returns-2
 returns-2 c =
     let a = c .before .before .before .before .before .before .before .before .before .before .before in
     let i = a .args .i in
-    let fits = c .before .before .before .before .before .before .before .if1 .left in
-    (c .holding .ensures ∙ stored-arm i (now (a .args .message)) (now (a .args .bytes)) (a .args .last) (a .pre .1) _ _ (a .pre .0) (omega (arith, fits, a .pre .1)) (c .before .store-answer .ensures) (c .before .before .after-data .ensures)
-    , c .before .before .before .before .before .put .ensures ∙ stored-all (i .got) (now (a .args .message)) (now (a .args .bytes)) (omega (arith, fits, a .pre .1)))
+    let fits = c .before .before .before .before .before .before .before .if1 .left in (
+      c .holding .ensures ∙ stored-arm i (now (a .args .message)) (now (a .args .bytes)) (a .args .last) (a .pre .1) _ _ (a .pre .0) (omega (arith, fits, a .pre .1)) (c .before .store-answer .ensures) (c .before .before .after-data .ensures),
+      c .before .before .before .before .before .put .ensures ∙ stored-all (i .got) (now (a .args .message)) (now (a .args .bytes)) (omega (arith, fits, a .pre .1)),
+    )
 
 pub stored-spec : {M : Type 1} → statement M
 stored-spec =
