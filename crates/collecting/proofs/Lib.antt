@@ -1,4 +1,5 @@
 -- Laws of headers, of a command that is filled up, and of what a fragment comes to.
 mod Headers
 mod Filled
-pub mod Outcomes
+mod Outcomes
+pub mod Meant

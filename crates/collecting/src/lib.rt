@@ -6,7 +6,6 @@ ghost use Prim.Native.Nat.{_+_, _≤_, _<_};
 ghost use mathlib.Core.List.{_++_};
 ghost use lib.Dec.{leb};
 ghost use lib.ListN.{length, take};
-ghost use Rattle.choice.specs.Pick.{pick};
 ghost use Rattle.octets.specs.Octets.{laid};
 ghost use Rattle.strike.specs.Machine.{headerWrong, collect, laidBy, reads, stores, overflows, dataset};
 ghost use Rattle.rules.specs.Lists.{filledTo};

@@ -2,7 +2,7 @@ use denote.Ref.{now}
 use mathlib.Core.Path.{refl, sym, ap, _∙_}
 use mathlib.Core.List.{List, _++_}
 use Prim.Native.Nat.{ℕ}
-use lib.ListN.{length, length-append}
+use lib.ListN.{length-append}
 use native.Mathlib.Omega.{arith}
 use Rattle.strike.specs.Machine.{reads}
 use Rattle.rules.specs.Calls.{reading}

@@ -1,5 +1,4 @@
 use borrow.Author.Tests.{eq-eqb, ne-eqb}
-use borrow.Author.Needs.{needs}
 use Rattle.collecting.proofs.command_before.Statement.{statement}
 use Rattle.collecting.proofs.command_before.Tie as tie
 

@@ -1,5 +1,5 @@
 use denote.Ref.{now}
-use mathlib.Core.Path.{sym, ap, subst, _∙_}
+use mathlib.Core.Path.{sym, _∙_}
 use native.Mathlib.Omega.{arith}
 use Rattle.collecting.proofs.Headers.{too-short, told-small, told-other, context-other, control-other, not-wrong}
 use borrow.Author.Needs.{needs}
