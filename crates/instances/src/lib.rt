@@ -1,8 +1,30 @@
 // Instances: which class and which instance a UID names; checks 2 to 7.
+use elements::Read;
+use headers::Part;
+use rules::Core;
+use rules::Film;
+use rules::Name;
+use rules::Numbers;
 use rules::Operation;
+use rules::Session;
 ghost use mathlib.Core.Path.{_≡_};
-ghost use Rattle.rules.specs.Checks.{verification, boxes, classOf, offers};
-ghost use Rattle.instances.specs.Meant.{classMeant};
+ghost use mathlib.Core.Bool.{true};
+ghost use mathlib.Core.List.{map};
+ghost use Prim.Native.Nat.{_+_, _≤_};
+ghost use lib.ListN.{length, take};
+ghost use Rattle.choice.specs.Pick.{both};
+ghost use Rattle.choice.specs.Rules.{firstBroken};
+ghost use Rattle.octets.specs.Octets.{same};
+ghost use Rattle.uids.specs.Uids.{beginsWith, unpadded, made};
+ghost use Rattle.rules.specs.Bounds.{noneLeft};
+ghost use Rattle.rules.specs.Lists.{placeOf, from};
+ghost use Rattle.rules.specs.Records.{rootOf, uidOf, isLive, boxUids, filmNamed, boxNamed, theSession, theFilm, theBox, named};
+ghost use Rattle.rules.specs.Commands.{uidAt, isRead};
+ghost use Rattle.rules.specs.Checks.{verification, boxes, classOf, isUnknown, offers, classPart, isTooLong, isUnreadable, isNobody, ofClass, generalRules, createRules, targetRules};
+ghost use Rattle.rules.specs.Sound.{coreSound};
+ghost use Rattle.commands.specs.Within.{PartIn, OperationIn};
+ghost use Rattle.instances.specs.Meant.{classMeant, instanceMeant, dataMeant};
+ghost use Rattle.instances.specs.There.{There, SerialsFit, AllFit};
 
 pub enum Class {
     Verification,
@@ -67,4 +89,160 @@ pub fn offers(class: Class, operation: Operation) -> bool
         Class::Boxes => is_set(operation),
         Class::Unknown => false,
     }
+}
+
+// The first n bytes, or all where there are fewer.
+fn front(s: &[u8], n: usize) -> &[u8]
+    ensures { λ r. ⌜ now r ≡ take n (now (s .entry)) ⌝ }
+{
+    if n < s.len() {
+        return &s[0..n];
+    }
+    s
+}
+
+// Whether a UID is the one made of a root, a dot and a serial.
+fn is_made(root: &[u8], serial: u32, uid: &[u8]) -> bool
+    requires { ⌜ length (now root) ≤ 40 ⌝ }
+    ensures { λ r. ⌜ r ≡ same (now (uid .entry)) (made (now (root .entry)) serial) ⌝ }
+{
+    let mut out = [0; 64];
+    let end = uids::put_made(&mut out, 0, root, serial);
+    octets::same_bytes(uid, &out[0..end])
+}
+
+// Whether a UID begins with the root and a dot.
+fn is_rooted(n: Numbers, uid: &[u8]) -> bool
+    ensures { λ r. ⌜ r ≡ beginsWith (rootOf n) (now (uid .entry)) ⌝ }
+{
+    let root = n.root;
+    uids::begins_with(front(&root, n.used as usize), uid)
+}
+
+pub fn is_named(n: Numbers, name: Name, uid: &[u8]) -> bool
+    requires { ⌜ n .used ≤ 40 ⌝ }
+    ensures { λ r. ⌜ r ≡ same (now (uid .entry)) (uidOf n name) ⌝ }
+{
+    let serial = name.made;
+    if serial.0 == 0 {
+        let text = name.text;
+        return octets::same_bytes(uid, front(&text, name.used as usize));
+    }
+    let root = n.root;
+    is_made(front(&root, n.used as usize), serial.0, uid)
+}
+
+// What came as data set.
+pub enum Data {
+    Absent,
+    Whole,
+    TooLong,
+}
+
+// The instance that a UID names: a film or a box by its place.
+pub enum Whom {
+    Nobody,
+    Session,
+    Film(usize),
+    ImageBox { film: usize, place: usize },
+}
+
+// The first of the UIDs made from a serial on, `count` of them, that is a UID; `count` where none is.
+fn made_place(root: &[u8], first: u32, count: usize, uid: &[u8]) -> usize
+    requires { ⌜ (length (now root) ≤ 40) × (first + count ≤ noneLeft) ⌝ }
+    ensures { λ r. ⌜ r ≡ placeOf (same (now (uid .entry))) (map (made (now (root .entry))) (from first count)) ⌝ }
+{
+    let mut i = 0;
+    while i < count {
+        if is_made(root, first + i as u32, uid) {
+            return i;
+        }
+        i += 1;
+    }
+    i
+}
+
+// The place of the box that a UID names; how many boxes the film has where it names none.
+fn box_place(n: Numbers, f: Film, uid: &[u8]) -> usize
+    requires { ⌜ (n .used ≤ 40) × SerialsFit f ⌝ }
+    ensures { λ r. ⌜ r ≡ placeOf (same (now (uid .entry))) (boxUids n f) ⌝ }
+{
+    let root = n.root;
+    let layout = f.layout;
+    let count = soundness::box_count(layout) as usize;
+    let first = f.first;
+    made_place(front(&root, n.used as usize), first.0, count, uid)
+}
+
+// Whether a UID names a box of the film.
+fn has_box(n: Numbers, f: Film, uid: &[u8]) -> bool
+    requires { ⌜ (n .used ≤ 40) × SerialsFit f ⌝ }
+    ensures { λ r. ⌜ r ≡ boxNamed n (now (uid .entry)) f ⌝ }
+{
+    let layout = f.layout;
+    let count = soundness::box_count(layout) as usize;
+    box_place(n, f, uid) < count
+}
+
+// The place of the film that a UID names; `count` where it names none.
+fn film_named(n: Numbers, films: [Film; 8], count: usize, uid: &[u8]) -> usize
+    requires { ⌜ (n .used ≤ 40) × (count ≤ 8) ⌝ }
+    ensures { λ r. ⌜ (r ≡ placeOf (filmNamed n (now (uid .entry))) (take count films)) × (length (take count films) ≡ count) ⌝ }
+{
+    let xs = films;
+    let mut i = 0;
+    while i < count {
+        let film = xs[i];
+        let name = film.name;
+        if is_named(n, name, uid) {
+            return i;
+        }
+        i += 1;
+    }
+    i
+}
+
+// The place of the film with the box that a UID names; `count` where it names none.
+fn film_with_box(n: Numbers, films: [Film; 8], count: usize, uid: &[u8]) -> usize
+    requires { ⌜ (n .used ≤ 40) × (count ≤ 8) × AllFit (take count films) ⌝ }
+    ensures { λ r. ⌜ (r ≡ placeOf (boxNamed n (now (uid .entry))) (take count films)) × (length (take count films) ≡ count) ⌝ }
+{
+    let xs = films;
+    let mut i = 0;
+    while i < count {
+        let film = xs[i];
+        if has_box(n, film, uid) {
+            return i;
+        }
+        i += 1;
+    }
+    i
+}
+
+fn is_session(n: Numbers, s: Session, uid: &[u8]) -> bool
+    requires { ⌜ n .used ≤ 40 ⌝ }
+    ensures { λ r. ⌜ r ≡ both (isLive s) (same (now (uid .entry)) (uidOf n (s .name))) ⌝ }
+{
+    if s.live == 0 {
+        return false;
+    }
+    let name = s.name;
+    is_named(n, name, uid)
+}
+
+fn unpadded(v: &[u8]) -> &[u8]
+    ensures { λ r. ⌜ now r ≡ unpadded (now (v .entry)) ⌝ }
+{
+    let n = uids::unpadded_length(v);
+    &v[0..n]
+}
+
+// The UID that stands at a place of a command.
+pub fn uid_at(c: &[u8], p: Part) -> &[u8]
+    requires { ⌜ PartIn (length (now c)) p ⌝ }
+    ensures { λ r. ⌜ now r ≡ uidAt (now (c .entry)) p ⌝ }
+{
+    let from = p.from;
+    let stop = p.stop;
+    unpadded(&c[from..stop])
 }

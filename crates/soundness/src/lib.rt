@@ -606,7 +606,7 @@ fn sum_of(a: [u8; 6], n: usize) -> u64
     v
 }
 
-fn box_count(l: Layout) -> u64
+pub fn box_count(l: Layout) -> u64
     ensures { λ r. ⌜ (r ≡ boxCount l) × (r ≤ 1530) ⌝ }
 {
     let counts = l.counts;

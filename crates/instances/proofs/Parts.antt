@@ -1,0 +1,18 @@
+-- The front of a list, and a UID that was laid there.
+-- Assumes nothing.
+use Prim.Native.Nat.{ℕ, _+_, _-_}
+use mathlib.Core.Path.{_≡_, ap, _∙_}
+use mathlib.Core.List.{List}
+use native.Mathlib.Omega.{arith}
+use lib.ListN.{length, take, drop}
+use lib.Seq.{take-append-seam}
+use Rattle.octets.specs.Octets.{laid}
+
+pub front : (s : List ℕ) (n : ℕ) → take (n - 0) (drop 0 s) ≡ take n s
+front s n = let e : n - 0 ≡ n = omega arith in ap (λ m. take m s) e
+
+-- what was laid in front stands there
+pub front-laid : (s out bytes : List ℕ) (n : ℕ) → out ≡ laid s 0 bytes → n ≡ 0 + length bytes → take (n - 0) (drop 0 out) ≡ bytes
+front-laid s out bytes n e h =
+    let g : n ≡ length bytes = omega arith in
+    front out n ∙ ap (take n) e ∙ ap (λ m. take m (laid s 0 bytes)) g ∙ take-append-seam bytes (drop (0 + length bytes) s)

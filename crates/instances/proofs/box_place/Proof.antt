@@ -1,0 +1,26 @@
+use mathlib.Core.Path.{_∙_}
+use native.Mathlib.Omega.{arith}
+use lib.ListN.{length-take}
+use Rattle.rules.specs.Records.{rootOf, boxUids}
+use borrow.Author.Needs.{needs}
+use Rattle.instances.proofs.box_place.Statement.{statement}
+use Rattle.instances.proofs.box_place.Tie as tie
+
+made-place-requires : tie.Need-made-place-requires
+made-place-requires c κs = let pre = c .before .before .before .before .before .before .before .before .pre in
+    (rw (c .front .ensures, length-take) (omega (arith, pre .0)), omega (arith, c .before .before .before .before .box-count .ensures .0, pre .1))
+
+returns : tie.Need-returns
+unfolding boxUids rootOf
+returns c = c .made-place .ensures ∙ rw (c .before .front .ensures, c .before .before .before .before .before .box-count .ensures .0)
+
+pub box-place-spec : {M : Type 1} → statement M
+box-place-spec =
+    tie.close
+    (tie.spec
+    (λ c κs. search needs)
+    (λ c. search needs)
+    (λ c. search needs)
+    (λ c κs. search needs)
+    made-place-requires
+    returns)
