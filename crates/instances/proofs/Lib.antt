@@ -1,6 +1,6 @@
 -- What the functions rest on.
 mod Classes
-mod Named
+mod Naming
 mod Parts
 mod Places
 mod Soundness

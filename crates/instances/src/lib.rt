@@ -230,6 +230,38 @@ fn is_session(n: Numbers, s: Session, uid: &[u8]) -> bool
     is_named(n, name, uid)
 }
 
+// The instance that a UID names.
+pub fn named(k: Core, uid: &[u8]) -> Whom
+    requires { ⌜ coreSound k ≡ true ⌝ }
+    ensures { λ r. ⌜ (instanceMeant r ≡ named k (now (uid .entry))) × There k r ⌝ }
+{
+    let numbers = k.numbers;
+    let session = k.session;
+    if is_session(numbers, session, uid) {
+        return Whom::Session;
+    }
+    let shelf = k.shelf;
+    let films = shelf.films;
+    let count = shelf.count as usize;
+    let film = film_named(numbers, films, count, uid);
+    if film < count {
+        return Whom::Film(film);
+    }
+    // a box's UID was made
+    if !is_rooted(numbers, uid) {
+        return Whom::Nobody;
+    }
+    let other = film_with_box(numbers, films, count, uid);
+    if count <= other {
+        return Whom::Nobody;
+    }
+    let holder = films[other];
+    Whom::ImageBox {
+        film: other,
+        place: box_place(numbers, holder, uid),
+    }
+}
+
 fn unpadded(v: &[u8]) -> &[u8]
     ensures { λ r. ⌜ now r ≡ unpadded (now (v .entry)) ⌝ }
 {

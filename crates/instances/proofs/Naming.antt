@@ -27,9 +27,11 @@ module _ (k : Core) (uid : List ℕ) where
   names-session e = rw e
 
   module _ (s : both (isLive (k .session)) (same uid (uidOf (k .numbers) (k .session .name))) ≡ false) where
-    pub names-film : placeOf (filmNamed (k .numbers) uid) (filmsOf (k .shelf)) < length (filmsOf (k .shelf)) → theFilm (placeOf (filmNamed (k .numbers) uid) (filmsOf (k .shelf))) ≡ named k uid
+    pub names-film : (i : ℕ) → i ≡ placeOf (filmNamed (k .numbers) uid) (filmsOf (k .shelf)) → i < length (filmsOf (k .shelf)) → theFilm i ≡ named k uid
     unfolding named
-    names-film h = rw (s, any-place (filmNamed (k .numbers) uid) (filmsOf (k .shelf)), lt-ltb _ _ h)
+    names-film i at h =
+        let inside : placeOf (filmNamed (k .numbers) uid) (filmsOf (k .shelf)) < length (filmsOf (k .shelf)) = omega arith in
+        rw (s, any-place (filmNamed (k .numbers) uid) (filmsOf (k .shelf)), lt-ltb _ _ inside, at)
 
     module _ (f : length (filmsOf (k .shelf)) ≤ placeOf (filmNamed (k .numbers) uid) (filmsOf (k .shelf))) where
       no-film : any (filmNamed (k .numbers) uid) (filmsOf (k .shelf)) ≡ false
