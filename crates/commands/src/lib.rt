@@ -163,7 +163,7 @@ fn well_formed(c: &[u8]) -> bool
     has_numbers(c)
 }
 
-fn is_read(read: Read) -> bool
+pub fn is_read(read: Read) -> bool
     ensures { λ r. ⌜ r ≡ isRead read ⌝ }
 {
     match read {

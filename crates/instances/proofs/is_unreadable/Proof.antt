@@ -1,0 +1,23 @@
+use Rattle.elements.specs.Reader.{dataSet}
+use Rattle.rules.specs.Commands.{isRead}
+use Rattle.instances.proofs.Classes.{not-is}
+use borrow.Author.Needs.{needs}
+use Rattle.instances.proofs.is_unreadable.Statement.{statement}
+use Rattle.instances.proofs.is_unreadable.Tie as tie
+
+returns-2 : tie.Need-returns-2
+returns-2 c = let a = c .before .before .before .before .before .args in
+    rw (c .before .before .enum-told2 .given .1, c .is-read .ensures, c .before .data-set .ensures) (not-is (isRead (dataSet (a .d .now) (a .explicit))))
+
+pub is-unreadable-spec : {M : Type 1} → statement M
+is-unreadable-spec =
+    tie.close
+    (tie.spec
+    (λ c. search needs)
+    (λ c. search needs)
+    (λ c κs. search needs)
+    (λ c κs. search needs)
+    (λ c. search needs)
+    (λ c. search needs)
+    returns-2
+    (λ c. search needs))
