@@ -1,2 +1,3 @@
--- What one turn of each loop does.
+-- What one turn of each loop does, and what short values hold.
+mod Octets
 mod Turns

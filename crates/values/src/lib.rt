@@ -3,7 +3,7 @@ ghost use mathlib.Core.Path.{_≡_};
 ghost use Prim.Native.Nat.{_≤_, _<_};
 ghost use lib.ListN.{length, take, drop, replicate};
 ghost use Rattle.rules.specs.Lists.{every};
-ghost use Rattle.rules.specs.Values.{withoutLeading, withoutTrailing, trimmed, blank, withoutPlus, countIn, labelByte, labelAllowed, oneToSix, standard, countsIn, codeIn, priorities, media, destinations, orientations, magnifications, polarities, photometrics};
+ghost use Rattle.rules.specs.Values.{withoutLeading, withoutTrailing, trimmed, blank, withoutPlus, countIn, labelByte, labelAllowed, oneToSix, standard, countsIn, codeIn, priorities, media, destinations, orientations, magnifications, polarities, photometrics, usIn};
 ghost use Rattle.values.specs.Counted.{counted};
 
 const SPACE: u8 = b' ';
@@ -307,4 +307,17 @@ pub fn photometric_in(s: &[u8]) -> usize
         return 1;
     }
     2
+}
+
+// US: the number of the first two bytes; bytes that are not there count as 0.
+pub fn us_in(s: &[u8]) -> u16
+    ensures { λ r. ⌜ (r ≡ usIn (now (s .entry))) × (r < 65536) ⌝ }
+{
+    if s.len() == 0 {
+        return 0;
+    }
+    if s.len() == 1 {
+        return s[0] as u16;
+    }
+    octets::u16_at(s, 0) as u16
 }
