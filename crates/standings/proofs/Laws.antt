@@ -97,3 +97,30 @@ worst-status standings = status-rank (any (is missing) standings) (any (is empty
 
 pub attributes-numbered : (standings : List Standing) → numbered (attributeRules standings) ≡ true
 attributes-numbered standings = refl
+
+-- where no rule of check 8 is broken, the first attribute stands as it should
+fine-rank : (s : Standing) (m e w : Bool)
+    → pick {A = ℕ} (either (is missing s) m) 0x0120 (pick (either (is empty s) e) 0x0121 (pick (either (is wrong s) w) 0x0106 0)) ≡ 0 → severity s ≡ 0
+fine-rank missing m e w h = absurd (omega (arith, h))
+fine-rank empty true e w h = absurd (omega (arith, h))
+fine-rank empty false e w h = absurd (omega (arith, h))
+fine-rank wrong true e w h = absurd (omega (arith, h))
+fine-rank wrong false true w h = absurd (omega (arith, h))
+fine-rank wrong false false w h = absurd (omega (arith, h))
+fine-rank fine m e w h = refl
+
+pub first-fine : (s : Standing) (standings : List Standing) → firstBroken (attributeRules (s ∷ standings)) ≡ 0 → severity s ≡ 0
+unfolding any
+first-fine s standings h = fine-rank s (any (is missing) standings) (any (is empty) standings) (any (is wrong) standings) h
+
+-- a mandatory attribute that stands as it should is allowed
+fine-tests : (none nested isEmpty allowed : Bool) → pick {A = ℕ} none 3 (pick nested 1 (pick isEmpty 2 (pick allowed 0 1))) ≡ 0 → allowed ≡ true
+fine-tests true nested isEmpty allowed h = absurd (omega (arith, h))
+fine-tests false true isEmpty allowed h = absurd (omega (arith, h))
+fine-tests false false true allowed h = absurd (omega (arith, h))
+fine-tests false false false true h = refl
+fine-tests false false false false h = absurd (omega (arith, h))
+
+pub fine-allowed : (kind : ℕ) (isEmpty allowed : Bool) → severityBy kind isEmpty allowed ≡ 0 → allowed ≡ true
+unfolding severityBy
+fine-allowed kind isEmpty allowed h = fine-tests (eqb kind 0) (eqb kind 2) isEmpty allowed h
