@@ -1,0 +1,2 @@
+-- The laws of an image box's attributes.
+pub mod Laws

@@ -1,0 +1,36 @@
+use mathlib.Core.Path.{sym, _∙_}
+use native.Mathlib.Omega.{arith}
+use Rattle.boxes.proofs.Laws.{area-fits}
+use borrow.Author.Needs.{needs}
+use Rattle.boxes.proofs.pixel_length.Statement.{statement}
+use Rattle.boxes.proofs.pixel_length.Tie as tie
+
+mul-result : tie.Need-mul-result
+mul-result c = omega (arith, area-fits _ _ (c .before .before .before .us .ensures .1) (c .before .before .us2 .ensures .1))
+
+returns : tie.Need-returns
+returns c = rw (c .before .before .before .us .ensures .0, c .before .before .us2 .ensures .0, sym (c .before .is-depth8 .ensures) ∙ c .if1 .taken) (omega arith)
+
+mul-result-2 : tie.Need-mul-result-2
+mul-result-2 c = omega (arith, area-fits _ _ (c .before .before .before .us .ensures .1) (c .before .before .us2 .ensures .1))
+
+mul-result-3 : tie.Need-mul-result-3
+mul-result-3 c = omega (arith, area-fits _ _ (c .before .before .before .us .ensures .1) (c .before .before .us2 .ensures .1))
+
+returns-2 : tie.Need-returns-2
+returns-2 c = rw (c .before .before .before .us .ensures .0, c .before .before .us2 .ensures .0, sym (c .before .is-depth8 .ensures) ∙ c .if1 .left)
+
+pub pixel-length-spec : {M : Type 1} → statement M
+pixel-length-spec =
+    tie.close
+    (tie.spec
+    (λ c κs. search needs)
+    (λ c. search needs)
+    (λ c κs. search needs)
+    (λ c. search needs)
+    (λ c κs. search needs)
+    mul-result
+    returns
+    mul-result-2
+    mul-result-3
+    returns-2)

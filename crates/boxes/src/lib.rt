@@ -1,0 +1,372 @@
+// Boxes: what a data set says for an image box on N-SET, check 8 and the values.
+use elements::Found;
+use elements::Items;
+use headers::Inside;
+use headers::Part;
+use rules::ImageBox;
+use rules::Picture;
+ghost use mathlib.Core.Path.{_≡_};
+ghost use Prim.Native.Nat.{_<_, _≤_};
+ghost use lib.Dec.{eqb, leb};
+ghost use lib.ListN.{length};
+ghost use Rattle.choice.specs.Pick.{both};
+ghost use Rattle.choice.specs.Rules.{firstBroken};
+ghost use Rattle.rules.specs.Values.{noBytes, isUS, photometrics, polarities, blank, codeIn};
+ghost use Rattle.rules.specs.Attributes.{attributeRules, optional, number, code, listingOf, look, valueOf, orKept, us, depth8, depthAllowed, pixelLength, imageStandings, sequenceStandings, imageIn, boxStandings, boxWith, pixels};
+ghost use Rattle.standings.specs.Severity.{kindOf, severity, severityBy, worst};
+ghost use Rattle.boxes.specs.Images.{listing, imageMeant, ImageWithin, itemsImage, pixelStanding, withExtents, withDepths, pictureGiven, fillsBox};
+
+const SAMPLES: usize = 0x0028_0002;
+
+const PHOTOMETRIC: usize = 0x0028_0004;
+
+const ROWS: usize = 0x0028_0010;
+
+const COLUMNS: usize = 0x0028_0011;
+
+const ALLOCATED: usize = 0x0028_0100;
+
+const STORED: usize = 0x0028_0101;
+
+const HIGH_BIT: usize = 0x0028_0102;
+
+const REPRESENTATION: usize = 0x0028_0103;
+
+const POSITION: usize = 0x2020_0010;
+
+const POLARITY: usize = 0x2020_0020;
+
+const IMAGE_SEQUENCE: usize = 0x2020_0110;
+
+const PIXEL_DATA: usize = 0x7FE0_0010;
+
+// What Image Sequence says: nothing, no item, several, or the list of its only item.
+pub enum Image {
+    Keeps,
+    Erases,
+    TooMany,
+    Fills(Inside),
+}
+
+fn us(d: &[u8], explicit: bool, room: usize, inside: Inside, tag: usize) -> u16
+    requires { ⌜ (inside .from ≤ inside .stop) × (inside .stop ≤ length (now d)) ⌝ }
+    ensures { λ r. ⌜ (r ≡ us (listing (now (d .entry)) explicit room inside) tag) × (r < 65536) ⌝ }
+{
+    let at = standings::look(d, explicit, room, inside, tag);
+    let place = at.value;
+    values::us_in(standings::value(d, place))
+}
+
+// A mandatory number of two bytes, by the test that it is allowed.
+fn us_severity(
+    d: &[u8],
+    explicit: bool,
+    room: usize,
+    inside: Inside,
+    tag: usize,
+    allowed: bool,
+) -> u8
+    requires { ⌜ (inside .from ≤ inside .stop) × (inside .stop ≤ length (now d)) ⌝ }
+    ensures { λ r. ⌜ r ≡ severityBy (kindOf (look (listing (now (d .entry)) explicit room inside) tag)) (noBytes (valueOf (listing (now (d .entry)) explicit room inside) tag)) (both (isUS (valueOf (listing (now (d .entry)) explicit room inside) tag)) allowed) ⌝ }
+{
+    let at = standings::look(d, explicit, room, inside, tag);
+    let kind = at.kind;
+    let place = at.value;
+    let size = standings::value(d, place).len();
+    if size != 2 {
+        return standings::severity(kind, size == 0, false);
+    }
+    standings::severity(kind, false, allowed)
+}
+
+// A mandatory number that is no other than this.
+fn exactly_severity(d: &[u8], explicit: bool, inside: Inside, tag: usize, only: u16) -> u8
+    requires { ⌜ (inside .from ≤ inside .stop) × (inside .stop ≤ length (now d)) ⌝ }
+    ensures { λ r. ⌜ r ≡ severity (number (λ n. eqb n only) (listing (now (d .entry)) explicit 3 inside) tag) ⌝ }
+{
+    let n = us(d, explicit, 3, inside, tag);
+    us_severity(d, explicit, 3, inside, tag, n == only)
+}
+
+// Rows and columns: from 1.
+fn extent_severity(d: &[u8], explicit: bool, inside: Inside, tag: usize) -> u8
+    requires { ⌜ (inside .from ≤ inside .stop) × (inside .stop ≤ length (now d)) ⌝ }
+    ensures { λ r. ⌜ r ≡ severity (number (λ n. leb 1 n) (listing (now (d .entry)) explicit 3 inside) tag) ⌝ }
+{
+    let n = us(d, explicit, 3, inside, tag);
+    us_severity(d, explicit, 3, inside, tag, 1 <= n)
+}
+
+// Three numbers of an item are these.
+fn depth_is(
+    d: &[u8],
+    explicit: bool,
+    inside: Inside,
+    allocated: u16,
+    stored: u16,
+    high: u16,
+) -> bool
+    requires { ⌜ (inside .from ≤ inside .stop) × (inside .stop ≤ length (now d)) ⌝ }
+    ensures { λ r. ⌜ r ≡ both (eqb (us (listing (now (d .entry)) explicit 3 inside) 0x0028_0100) allocated) (both (eqb (us (listing (now (d .entry)) explicit 3 inside) 0x0028_0101) stored) (eqb (us (listing (now (d .entry)) explicit 3 inside) 0x0028_0102) high)) ⌝ }
+{
+    if us(d, explicit, 3, inside, ALLOCATED) != allocated {
+        return false;
+    }
+    if us(d, explicit, 3, inside, STORED) != stored {
+        return false;
+    }
+    us(d, explicit, 3, inside, HIGH_BIT) == high
+}
+
+fn is_depth8(d: &[u8], explicit: bool, inside: Inside) -> bool
+    requires { ⌜ (inside .from ≤ inside .stop) × (inside .stop ≤ length (now d)) ⌝ }
+    ensures { λ r. ⌜ r ≡ depth8 (listing (now (d .entry)) explicit 3 inside) ⌝ }
+{
+    depth_is(d, explicit, inside, 8, 8, 7)
+}
+
+// 8,8,7 or 16,12,11
+fn depth_allowed(d: &[u8], explicit: bool, inside: Inside) -> bool
+    requires { ⌜ (inside .from ≤ inside .stop) × (inside .stop ≤ length (now d)) ⌝ }
+    ensures { λ r. ⌜ r ≡ depthAllowed (listing (now (d .entry)) explicit 3 inside) ⌝ }
+{
+    if is_depth8(d, explicit, inside) {
+        return true;
+    }
+    depth_is(d, explicit, inside, 16, 12, 11)
+}
+
+fn depth_severity(d: &[u8], explicit: bool, inside: Inside, tag: usize) -> u8
+    requires { ⌜ (inside .from ≤ inside .stop) × (inside .stop ≤ length (now d)) ⌝ }
+    ensures { λ r. ⌜ r ≡ severity (number (λ n. depthAllowed (listing (now (d .entry)) explicit 3 inside)) (listing (now (d .entry)) explicit 3 inside) tag) ⌝ }
+{
+    let allowed = depth_allowed(d, explicit, inside);
+    us_severity(d, explicit, 3, inside, tag, allowed)
+}
+
+fn photometric_severity(d: &[u8], explicit: bool, inside: Inside) -> u8
+    requires { ⌜ (inside .from ≤ inside .stop) × (inside .stop ≤ length (now d)) ⌝ }
+    ensures { λ r. ⌜ r ≡ severity (code photometrics (listing (now (d .entry)) explicit 3 inside) 0x0028_0004) ⌝ }
+{
+    let at = standings::look(d, explicit, 3, inside, PHOTOMETRIC);
+    let kind = at.kind;
+    let place = at.value;
+    let v = standings::value(d, place);
+    standings::severity(kind, values::is_blank(v), values::photometric_in(v) < 2)
+}
+
+// "length rows × columns × 1 or 2"
+fn pixel_length(d: &[u8], explicit: bool, inside: Inside) -> usize
+    requires { ⌜ (inside .from ≤ inside .stop) × (inside .stop ≤ length (now d)) ⌝ }
+    ensures { λ r. ⌜ r ≡ pixelLength (listing (now (d .entry)) explicit 3 inside) ⌝ }
+{
+    let rows = us(d, explicit, 3, inside, ROWS) as usize;
+    let columns = us(d, explicit, 3, inside, COLUMNS) as usize;
+    if is_depth8(d, explicit, inside) {
+        return rows * columns;
+    }
+    rows * columns * 2
+}
+
+fn pixels_severity(d: &[u8], explicit: bool, inside: Inside) -> u8
+    requires { ⌜ (inside .from ≤ inside .stop) × (inside .stop ≤ length (now d)) ⌝ }
+    ensures { λ r. ⌜ r ≡ severity (pixelStanding (listing (now (d .entry)) explicit 3 inside)) ⌝ }
+{
+    let at = standings::look(d, explicit, 3, inside, PIXEL_DATA);
+    let kind = at.kind;
+    let place = at.value;
+    let size = standings::value(d, place).len();
+    let expected = pixel_length(d, explicit, inside);
+    standings::severity(kind, size == 0, size == expected)
+}
+
+// The worst of Samples, Photometric Interpretation, Rows, Columns and others.
+fn with_extents(d: &[u8], explicit: bool, inside: Inside, others: u8) -> u8
+    requires { ⌜ (inside .from ≤ inside .stop) × (inside .stop ≤ length (now d)) ⌝ }
+    ensures { λ r. ⌜ r ≡ withExtents (listing (now (d .entry)) explicit 3 inside) others ⌝ }
+{
+    let samples = exactly_severity(d, explicit, inside, SAMPLES, 1);
+    let photometric = photometric_severity(d, explicit, inside);
+    let rows = extent_severity(d, explicit, inside, ROWS);
+    let columns = extent_severity(d, explicit, inside, COLUMNS);
+    let extent = standings::worse(rows, standings::worse(columns, others));
+    standings::worse(samples, standings::worse(photometric, extent))
+}
+
+// The worst of the three numbers of a depth and others.
+fn with_depths(d: &[u8], explicit: bool, inside: Inside, others: u8) -> u8
+    requires { ⌜ (inside .from ≤ inside .stop) × (inside .stop ≤ length (now d)) ⌝ }
+    ensures { λ r. ⌜ r ≡ withDepths (listing (now (d .entry)) explicit 3 inside) others ⌝ }
+{
+    let allocated = depth_severity(d, explicit, inside, ALLOCATED);
+    let stored = depth_severity(d, explicit, inside, STORED);
+    let high = depth_severity(d, explicit, inside, HIGH_BIT);
+    standings::worse(
+        allocated,
+        standings::worse(stored, standings::worse(high, others)),
+    )
+}
+
+// "All of an item is mandatory"
+fn image_worst(d: &[u8], explicit: bool, inside: Inside) -> u8
+    requires { ⌜ (inside .from ≤ inside .stop) × (inside .stop ≤ length (now d)) ⌝ }
+    ensures { λ r. ⌜ r ≡ worst (imageStandings (listing (now (d .entry)) explicit 3 inside)) ⌝ }
+{
+    let sign = exactly_severity(d, explicit, inside, REPRESENTATION, 0);
+    let data = pixels_severity(d, explicit, inside);
+    let depths = with_depths(d, explicit, inside, standings::worse(sign, data));
+    with_extents(d, explicit, inside, depths)
+}
+
+fn image_of(items: Items) -> Image
+    ensures { λ r. ⌜ r ≡ itemsImage items ⌝ }
+{
+    match items {
+        Items::Empty => Image::Erases,
+        Items::One(inside) => Image::Fills(inside),
+        Items::Several(_) => Image::TooMany,
+    }
+}
+
+pub fn image_in(d: &[u8], explicit: bool) -> Image
+    ensures { λ r. ⌜ (imageMeant (now (d .entry)) explicit r ≡ imageIn (listingOf (now (d .entry)) explicit)) × ImageWithin (length (now (d .entry))) r ⌝ }
+{
+    let whole = Inside {
+        from: 0,
+        stop: d.len(),
+        loose: false,
+    };
+    match elements::find(d, explicit, 4, whole, IMAGE_SEQUENCE) {
+        Found::Missing => Image::Keeps,
+        Found::Value(_) => Image::TooMany,
+        Found::Sequence(inside) => image_of(elements::items_in(d, explicit, 3, inside)),
+    }
+}
+
+fn sequence_worst(d: &[u8], explicit: bool, image: Image) -> u8
+    requires { ⌜ ImageWithin (length (now d)) image ⌝ }
+    ensures { λ r. ⌜ r ≡ worst (sequenceStandings (imageMeant (now (d .entry)) explicit image)) ⌝ }
+{
+    match image {
+        Image::Keeps => 0,
+        Image::Erases => 0,
+        Image::TooMany => 1,
+        Image::Fills(inside) => image_worst(d, explicit, inside),
+    }
+}
+
+// "Position (2020,0010) US, mandatory in N-SET, 1 to C×R"
+fn position_severity(boxes: usize, d: &[u8], explicit: bool) -> u8
+    ensures { λ r. ⌜ r ≡ severity (number (λ n. both (leb 1 n) (leb n boxes)) (listingOf (now (d .entry)) explicit) 0x2020_0010) ⌝ }
+{
+    let whole = Inside {
+        from: 0,
+        stop: d.len(),
+        loose: false,
+    };
+    let n = us(d, explicit, 4, whole, POSITION) as usize;
+    if n < 1 {
+        return us_severity(d, explicit, 4, whole, POSITION, false);
+    }
+    us_severity(d, explicit, 4, whole, POSITION, n <= boxes)
+}
+
+fn polarity_severity(d: &[u8], explicit: bool) -> u8
+    ensures { λ r. ⌜ r ≡ severity (optional (code polarities (listingOf (now (d .entry)) explicit) 0x2020_0020)) ⌝ }
+{
+    let whole = Inside {
+        from: 0,
+        stop: d.len(),
+        loose: false,
+    };
+    let at = standings::look(d, explicit, 4, whole, POLARITY);
+    let kind = at.kind;
+    let place = at.value;
+    let v = standings::value(d, place);
+    standings::optional_severity(kind, values::is_blank(v), values::polarity_in(v) < 2)
+}
+
+pub fn box_broken(boxes: usize, d: &[u8], explicit: bool) -> u16
+    ensures { λ r. ⌜ r ≡ firstBroken (attributeRules (boxStandings boxes (listingOf (now (d .entry)) explicit))) ⌝ }
+{
+    let position = position_severity(boxes, d, explicit);
+    let polarity = polarity_severity(d, explicit);
+    let image = image_in(d, explicit);
+    let sequence = sequence_worst(d, explicit, image);
+    standings::status_of(standings::worse(position, standings::worse(polarity, sequence)))
+}
+
+fn picture_after(next: u32, image: Image, old: u32) -> u32
+    ensures { λ r. ⌜ r ≡ pictureGiven next image old ⌝ }
+{
+    match image {
+        Image::Keeps => old,
+        Image::Erases => 0,
+        Image::TooMany => old,
+        Image::Fills(_) => next,
+    }
+}
+
+fn polarity_or(d: &[u8], explicit: bool, kept: u8) -> u8
+    ensures { λ r. ⌜ r ≡ orKept blank (listingOf (now (d .entry)) explicit) 0x2020_0020 (codeIn polarities) kept ⌝ }
+{
+    let whole = Inside {
+        from: 0,
+        stop: d.len(),
+        loose: false,
+    };
+    let at = standings::look(d, explicit, 4, whole, POLARITY);
+    let kind = at.kind;
+    let place = at.value;
+    let v = standings::value(d, place);
+    if standings::is_given(kind, values::is_blank(v)) {
+        return values::polarity_in(v) as u8;
+    }
+    kept
+}
+
+// A box with what the data set gives, where `next` is the next picture number.
+pub fn box_with(next: u32, d: &[u8], explicit: bool, b: ImageBox) -> ImageBox
+    requires { ⌜ us (listingOf (now d) explicit) 0x2020_0010 < 256 ⌝ }
+    ensures { λ r. ⌜ r ≡ boxWith next (listingOf (now (d .entry)) explicit) b ⌝ }
+{
+    let whole = Inside {
+        from: 0,
+        stop: d.len(),
+        loose: false,
+    };
+    let position = us(d, explicit, 4, whole, POSITION) as u8;
+    let polarity = polarity_or(d, explicit, b.polarity);
+    let old = b.picture;
+    let image = image_in(d, explicit);
+    let picture = Picture(picture_after(next, image, old.0));
+    ImageBox {
+        position: position,
+        polarity: polarity,
+        picture: picture,
+    }
+}
+
+pub fn is_fill(image: Image) -> bool
+    ensures { λ r. ⌜ r ≡ fillsBox image ⌝ }
+{
+    match image {
+        Image::Keeps => false,
+        Image::Erases => false,
+        Image::TooMany => false,
+        Image::Fills(_) => true,
+    }
+}
+
+// Where the pixels lie in the message buffer.
+pub fn pixels(d: &[u8], explicit: bool, image: Image) -> Part
+    requires { ⌜ ImageWithin (length (now d)) image ⌝ }
+    ensures { λ r. ⌜ (r ≡ pixels (imageMeant (now (d .entry)) explicit image)) × (r .from ≤ r .stop) × (r .stop ≤ length (now (d .entry))) ⌝ }
+{
+    match image {
+        Image::Keeps => Part { from: 0, stop: 0 },
+        Image::Erases => Part { from: 0, stop: 0 },
+        Image::TooMany => Part { from: 0, stop: 0 },
+        Image::Fills(inside) => standings::look(d, explicit, 3, inside, PIXEL_DATA).value,
+    }
+}
