@@ -62,10 +62,11 @@ abbrev pub afterCall : List ℕ → List ℕ → Call Handed → Records Core
 afterCall b message c = step printing (recordsIn (unpack b) message) c .records
 
 module _ (b message : List ℕ) (c : Call Handed) (o : Bytes b) (bytes : CallBytes c) (e : sound (unpack b) ≡ true) where
-  after-sound : sound (stateOf (afterCall b message c)) ≡ true
+  -- it keeps the rules, and the input fits its fields
+  pub after-sound : sound (stateOf (afterCall b message c)) ≡ true
   after-sound = call-sound (unpack b) message c e
 
-  after-fits : InputFits (afterCall b message c .input)
+  pub after-fits : InputFits (afterCall b message c .input)
   after-fits =
       let k = unpack b .core in
       let i = unpack b .input in

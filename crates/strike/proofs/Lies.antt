@@ -145,7 +145,8 @@ module _ (G : Service) where
         let o = carried-lies (s .core) _ _ (c .0) in
         record { input-lies = o .0; answer-lies = o .1; same-length = c .1 })
 
-    checked-lies : (x : Check) (bytes : List ℕ) (a : Arg)
+    -- of a feed that a check has passed, or has refused
+    pub checked-lies : (x : Check) (bytes : List ℕ) (a : Arg)
         → StepLies (checked G x s (feed bytes a)) (laidIf G x s (fragmentIn (context (s .core)) bytes) message) message
     unfolding checked laidIf
     checked-lies (refuses n) bytes a = record { input-lies = h; answer-lies = tt; same-length = refl }

@@ -79,6 +79,12 @@ unfoldable pub without : {Arg Response Told : Type 0} → (ℕ → Bool) → Lis
 without S [] = []
 without S (e ∷ es) = pick (struck S (e .message)) (without S es) (e ∷ without S es)
 
+-- of a list with one element for each event, those whose events are left
+unfoldable pub leftOf : {Arg Response Told A : Type 0} → (ℕ → Bool) → List (Event Arg Response Told) → List A → List A
+leftOf S [] xs = []
+leftOf S (e ∷ es) [] = []
+leftOf S (e ∷ es) (x ∷ xs) = pick (struck S (e .message)) (leftOf S es xs) (x ∷ leftOf S es xs)
+
 abbrev pub callsOf : {Arg Response Told : Type 0} → List (Event Arg Response Told) → List (Call Arg)
 callsOf es = map (λ e. e .call) es
 

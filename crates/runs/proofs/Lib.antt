@@ -1,0 +1,3 @@
+-- Records that a call writes.
+pub mod Buffers
+pub mod Refusals
