@@ -1,0 +1,88 @@
+-- Start, open and close over good records do what the machine does, and leave good records.
+-- Assumes nothing.
+use mathlib.Core.Path.{_≡_, refl, sym, ap, _∙_, subst}
+use mathlib.Core.Bool.{true, false}
+use mathlib.Core.List.{List, [], _∷_}
+use Prim.Native.Nat.{ℕ, _≤_}
+use native.Mathlib.Omega.{arith}
+use borrow.Author.Tests.{le-ltb, eqb-true}
+use lib.Dec.{eqb, ltb}
+use lib.ListN.{length}
+use Rattle.choice.specs.Rules.{_⇒_, firstOr}
+use Rattle.choice.proofs.Picks.{pick-cases, first-kept}
+use Rattle.strike.specs.Service.{Call, start, opening, close, Check, passes, refuses}
+use Rattle.strike.specs.Machine as machine
+use Rattle.strike.specs.Machine.{idle, done, Records, Step, leaves, checked, step}
+use Rattle.rules.specs.declared.Core.{Core}
+use Rattle.rules.specs.Responses.{Reply}
+use Rattle.rules.specs.Layout.{recordsSize, unpack}
+use Rattle.rules.specs.Calls.{Handed, check, started, opened, closed, printing}
+use Rattle.rules.specs.Outcomes.{inputIn, recordsIn, numberOf, recordsRules, Outcome, changed, unchanged, orUnchanged, starts, opens, closes}
+use Rattle.promises.proofs.Unpacked.{CallBytes}
+use Rattle.promises.proofs.Next.{afterCall}
+use Rattle.runs.specs.Host.{RecordsGood}
+use Rattle.runs.proofs.Buffers.{left-good, left-view}
+use Rattle.runs.proofs.Refusals.{records-accepted, check-cases}
+
+-- an outcome is that of a step of the machine, whatever stands in the message buffer
+pub record OutcomeRight (message : List ℕ) (s : Step Core Reply (List ℕ)) (x : Outcome) : Type 0 where
+  pub good : RecordsGood (x .records)
+  pub view : recordsIn (unpack (x .records)) message ≡ s .records
+  pub number : x .number ≡ numberOf (s .answer)
+
+-- a call that, once passed, leaves a core and no message half collected
+module _ (b message : List ℕ) (c : Call Handed) (good : RecordsGood b) (bytes : CallBytes c) (left : Core)
+    (leaving : (i : machine.Input) → checked printing passes (record { core = unpack b .core; input = i }) c ≡ leaves left idle done) where
+  abbrev Right : Check → Type 0
+  Right x = OutcomeRight message (checked printing x (recordsIn (unpack b) message) c) (orUnchanged b (checked printing x (recordsIn (unpack b) []) c))
+
+  right-refused : (n : ℕ) → 2 ≤ n → Right (refuses n)
+  unfolding checked numberOf
+  right-refused n h =
+      pick-cases (OutcomeRight message (checked printing (refuses n) (recordsIn (unpack b) message) c)) (eqb n 0) (changed b (checked printing (refuses n) (recordsIn (unpack b) []) c)) (unchanged b n)
+      (λ e. let z : n ≡ 0 = eqb-true n 0 e in absurd (omega arith))
+      (λ e. record { good = good; view = refl; number = refl })
+
+  left-records : check (unpack b .core) c ≡ passes → afterCall b message c ≡ record { core = left; input = idle }
+  unfolding step
+  left-records e =
+      ap (λ (x : Check). checked printing x (recordsIn (unpack b) message) c .records) e
+      ∙ ap (λ (x : Step Core Reply (List ℕ)). x .records) (leaving (inputIn (unpack b .input) message))
+
+  right-passed : check (unpack b .core) c ≡ passes → Right passes
+  unfolding numberOf
+  right-passed e =
+      rw (leaving (inputIn (unpack b .input) message), leaving (inputIn (unpack b .input) []))
+      (record {
+        good = left-good b message c good bytes (record { core = left; input = idle }) (left-records e);
+        view = left-view b message c good bytes (record { core = left; input = idle }) message (left-records e) tt;
+        number = refl;
+      })
+
+  outcome-right : OutcomeRight message (step printing (recordsIn (unpack b) message) c) (orUnchanged b (step printing (recordsIn (unpack b) []) c))
+  unfolding step
+  outcome-right =
+      check-cases (unpack b .core) c (λ (x : Check). check (unpack b .core) c ≡ x → Right x) (λ n h e. right-refused n h) (λ r e. right-passed e) refl
+
+module _ (b message : List ℕ) (h : Handed) (good : RecordsGood b) where
+  abbrev RightCall : Call Handed → Outcome → Type 0
+  RightCall c x = OutcomeRight message (step printing (recordsIn (unpack b) message) c) x
+
+  pub starts-right : RightCall (start h) (starts b h)
+  unfolding starts checked
+  starts-right =
+      subst (RightCall (start h))
+      (sym (first-kept (unchanged b) ((ltb (length b) recordsSize ⇒ 2) ∷ []) (orUnchanged b (step printing (recordsIn (unpack b) []) (start h))) (le-ltb (length b) recordsSize (good .long), tt)))
+      (outcome-right b message (start h) good tt (started h) (λ i. refl))
+
+  -- open and close look at the records first
+  accepted : (c : Call Handed) → RightCall c (orUnchanged b (step printing (recordsIn (unpack b) []) c)) → RightCall c (firstOr (unchanged b) (recordsRules b) (orUnchanged b (step printing (recordsIn (unpack b) []) c)))
+  accepted c x = subst (RightCall c) (sym (first-kept (unchanged b) (recordsRules b) (orUnchanged b (step printing (recordsIn (unpack b) []) c)) (records-accepted b good))) x
+
+  pub opens-right : RightCall (opening h) (opens b h)
+  unfolding opens checked
+  opens-right = accepted (opening h) (outcome-right b message (opening h) good tt (opened (unpack b .core) h) (λ i. refl))
+
+  pub closes-right : RightCall (close h) (closes b h)
+  unfolding closes checked
+  closes-right = accepted (close h) (outcome-right b message (close h) good tt (closed (unpack b .core)) (λ i. refl))
