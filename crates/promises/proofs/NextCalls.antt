@@ -141,7 +141,7 @@ unfolding checked numberOf
 started-records b s h passes e = refl
 started-records b s h (refuses n) e = absurd (let z : _≡_ {A = ℕ} 0 1 = cc in omega arith)
 
-fresh-sound : (h : Handed) → Kept (startRules h) → sound (stateOf (record { core = started h; input = idle })) ≡ true
+pub fresh-sound : (h : Handed) → Kept (startRules h) → sound (stateOf (record { core = started h; input = idle })) ≡ true
 unfolding sound
 fresh-sound h r = both-holds (coreSound (started h)) (inputSound (started h .opened) (inputHeld idle)) (started-sound h r) (fits-sound (started h .opened) idle tt)
 

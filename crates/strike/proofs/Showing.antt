@@ -8,14 +8,8 @@ use Prim.Native.Nat.{ℕ}
 use Rattle.choice.specs.Pick.{pick}
 use Rattle.strike.specs.Service.{Call, Service}
 use Rattle.strike.specs.Machine.{Answer, Records, step}
-use Rattle.strike.specs.Messages.{Count, countAfter, Event, struck, without, leftOf, callsOf, answersOf, strikeable, fateOf, roleOf, eventOf, historyFrom, history}
+use Rattle.strike.specs.Messages.{Count, countAfter, Event, struck, without, leftOf, callsOf, answersOf, together, strikeable, fateOf, roleOf, eventOf, historyFrom, history}
 use Rattle.strike.proofs.Refine.{acts, replies, Right, strike-out-of}
-
--- what each call shows of its answer
-unfoldable pub together : {A B C : Type 0} → (A → B → C) → List A → List B → List C
-together f [] ys = []
-together f (x ∷ xs) [] = []
-together f (x ∷ xs) (y ∷ ys) = f x y ∷ together f xs ys
 
 module _ (G : Service) (State Handed Shown : Type 0) (Good : State → Type 0) (view : State → Records (G .Core)) (read : Handed → Call (G .Arg))
     (act : State → Handed → State) (shows : State → Handed → Shown) (shown : Handed → Answer (G .Response) (G .Told) → Shown) where

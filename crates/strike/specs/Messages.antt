@@ -91,6 +91,12 @@ callsOf es = map (λ e. e .call) es
 abbrev pub answersOf : {Arg Response Told : Type 0} → List (Event Arg Response Told) → List (Answer Response Told)
 answersOf es = map (λ e. e .answer) es
 
+-- two lists, element by element: what each call shows of its answer
+unfoldable pub together : {A B C : Type 0} → (A → B → C) → List A → List B → List C
+together f [] ys = []
+together f (x ∷ xs) [] = []
+together f (x ∷ xs) (y ∷ ys) = f x y ∷ together f xs ys
+
 -- how a message ended; unsettled: by a close, a start or the run's end
 pub data Fate : Type 0 where
   succeeded failed wasDropped wasCutOff unsettled : Fate
