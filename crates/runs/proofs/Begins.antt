@@ -1,15 +1,16 @@
 -- Where a run begins: a start that answers 0 makes good records, of any bytes.
 -- Assumes nothing.
 use mathlib.Core.Path.{_≡_, refl}
-use mathlib.Core.List.{List, []}
+use mathlib.Core.List.{List, [], _∷_}
 use Prim.Native.Nat.{ℕ, _≤_}
 use native.Mathlib.Omega.{arith}
 use borrow.Author.Tests.{ltb-false, eqb-true}
 use lib.Dec.{eqb, ltb}
-use lib.ListN.{length}
+use lib.ListN.{length, replicate}
 use Rattle.choice.proofs.Picks.{pick-cases}
 use Rattle.octets.specs.Octets.{Bytes}
-use Rattle.strike.specs.Service.{start, Check, passes, refuses}
+use Rattle.uids.specs.Uids.{digits, component, components, isUid}
+use Rattle.strike.specs.Service.{start, Check, refuses}
 use Rattle.strike.specs.Machine.{idle, Records, checked, step}
 use Rattle.rules.specs.declared.Core.{Core}
 use Rattle.rules.specs.Layout.{recordsSize, unpack}
@@ -50,3 +51,8 @@ module _ (b : List ℕ) (h : Handed) (o : Bytes b) where
 pub start-good : (k : Kept) (root : List ℕ) (serial picture : ℕ) → Bytes (k .records) → shows k (starting root serial picture) .number ≡ 0 → Good (length (k .message)) (does k (starting root serial picture))
 unfolding shows does
 start-good k root serial picture o z = record { records = starts-good (k .records) (startHanded root serial picture) o z; fixed = refl }
+
+-- such as a start over 7,072 zero bytes with root 1.9.7
+pub begins-at-work : shows (record { records = replicate recordsSize 0; message = [] }) (starting (0x31 ∷ 0x2E ∷ 0x39 ∷ 0x2E ∷ 0x37 ∷ []) 100 1) .number ≡ 0
+unfolding shows starts step checked check numberOf isUid components component digits
+begins-at-work = refl

@@ -1,6 +1,6 @@
 -- What a call writes over good records is good: bytes, no fewer than before, in which the records keep their rules.
 -- Assumes nothing.
-use mathlib.Core.Path.{_≡_, ap, _∙_, sym, subst}
+use mathlib.Core.Path.{_≡_, ap, _∙_, subst}
 use mathlib.Core.Bool.{true}
 use mathlib.Core.List.{List, _++_}
 use Prim.Native.Nat.{ℕ, _+_, _≤_}

@@ -1,14 +1,14 @@
 -- Feed over good records does what the machine does, leaves good records, and a message buffer of the same length in which the data lies.
 -- Assumes nothing.
-use mathlib.Core.Path.{_≡_, refl, sym, ap, _∙_, subst}
-use mathlib.Core.Bool.{Bool, true, false}
+use mathlib.Core.Path.{_≡_, refl, sym, ap, subst}
+use mathlib.Core.Bool.{false}
 use mathlib.Core.Option.{Option, none, some}
 use mathlib.Core.List.{List, [], _∷_}
 use Prim.Native.Nat.{ℕ, zero, suc}
 use borrow.Author.Tests.{eqb-true}
 use lib.Dec.{eqb, ltb}
 use lib.ListN.{length, take}
-use Rattle.choice.specs.Pick.{pick, both, either, not}
+use Rattle.choice.specs.Pick.{both, either, not}
 use Rattle.choice.proofs.Picks.{Kept, pick-cases, first-kept, clash, not-false, both-second, either-false}
 use Rattle.octets.specs.Octets.{Bytes}
 use Rattle.strike.specs.Service.{DataSet, Result, fails, does, feed, Check, passes, refuses}

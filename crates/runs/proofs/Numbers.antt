@@ -5,16 +5,15 @@ use mathlib.Core.Option.{Option, none, some}
 use mathlib.Core.List.{List}
 use Prim.Native.Nat.{ℕ}
 use native.Mathlib.Omega.{arith}
-use lib.ListN.{length}
 use Rattle.strike.specs.Service as service
-use Rattle.strike.specs.Service.{DataSet, Result, fails, does, Call, start, feed, close, aside, Check, passes, refuses}
+use Rattle.strike.specs.Service.{DataSet, Result, fails, does, Call, start, feed, close, aside, Check, passes}
 use Rattle.strike.specs.Machine.{Fragment, fragmentIn, Outcome, ignores, waits, drops, asks, collect, Answer, Records, answered, carriedOut, fed, checked, step}
 use Rattle.rules.specs.declared.Core.{Core}
 use Rattle.rules.specs.Responses.{Reply}
 use Rattle.rules.specs.Checks.{decide}
 use Rattle.rules.specs.Calls.{Handed, reading, printing}
 use Rattle.rules.specs.Outcomes.{numberOf}
-use Rattle.runs.specs.Host.{Kept, HostCall, starting, opening, feeding, closing, taking, Shown, shows, view, callOf, shown, Good}
+use Rattle.runs.specs.Host.{Kept, HostCall, starting, opening, feeding, closing, taking, Shown, shows, viewOf, callOf, shown, Good}
 use Rattle.runs.proofs.Refusals.{check-cases}
 use Rattle.runs.proofs.Right.{host-right}
 
@@ -60,6 +59,6 @@ number-shown (taking entry) a = refl
 
 pub never-refused-1 : (room : ℕ) (k : Kept) (h : HostCall) → Good room k → shows k h .number ≡ 1 → ⊥
 never-refused-1 room k h g e =
-    let a = step printing (view k) (callOf room h) .answer in
-    step-number (view k) (callOf room h)
+    let a = step printing (viewOf k) (callOf room h) .answer in
+    step-number (viewOf k) (callOf room h)
     (sym (ap (λ (x : Shown). x .number) (host-right room .right-shows k h g) ∙ number-shown h a) ∙ e)

@@ -1,7 +1,6 @@
 -- Start, open and close over good records do what the machine does, and leave good records.
 -- Assumes nothing.
 use mathlib.Core.Path.{_≡_, refl, sym, ap, _∙_, subst}
-use mathlib.Core.Bool.{true, false}
 use mathlib.Core.List.{List, [], _∷_}
 use Prim.Native.Nat.{ℕ, _≤_}
 use native.Mathlib.Omega.{arith}
@@ -12,7 +11,7 @@ use Rattle.choice.specs.Rules.{_⇒_, firstOr}
 use Rattle.choice.proofs.Picks.{pick-cases, first-kept}
 use Rattle.strike.specs.Service.{Call, start, opening, close, Check, passes, refuses}
 use Rattle.strike.specs.Machine as machine
-use Rattle.strike.specs.Machine.{idle, done, Records, Step, leaves, checked, step}
+use Rattle.strike.specs.Machine.{idle, done, Step, leaves, checked, step}
 use Rattle.rules.specs.declared.Core.{Core}
 use Rattle.rules.specs.Responses.{Reply}
 use Rattle.rules.specs.Layout.{recordsSize, unpack}

@@ -1,25 +1,23 @@
 -- DEMAND 3 over the bytes of the calls.
 -- Assumes nothing.
 use mathlib.Core.Path.{_≡_, refl, sym, ap, _∙_}
-use mathlib.Core.Bool.{Bool}
 use mathlib.Core.List.{List, [], _∷_}
 use Prim.Native.Nat.{ℕ}
 use lib.ListN.{length}
-use Rattle.strike.specs.Messages.{leftOf, together}
+use Rattle.strike.specs.Messages.{leftOf}
 use Rattle.strike.proofs.Refine.{acts}
 use Rattle.strike.proofs.Showing.{showings, ended, strike-out-showing, strike-out-left}
-use Rattle.rules.specs.declared.Core.{Core}
 use Rattle.rules.specs.Calls.{printing}
-use Rattle.runs.specs.Host.{Kept, HostCall, does, Shown, shows, view, callOf, shown, RecordsGood, Good}
-use Rattle.runs.specs.Runs.{keptAfter, shownBy, eventsOf, coreIn, MayStrike, SameBytes, StrikeOutBytes, SameAnswers, StrikeOutAnswers}
+use Rattle.runs.specs.Host.{Kept, HostCall, does, Shown, shows, viewOf, callOf, shown, RecordsGood, Good}
+use Rattle.runs.specs.Runs.{keptAfter, shownBy, eventsOf, coreIn, StrikeOutBytes, StrikeOutAnswers}
 use Rattle.runs.proofs.Right.{host-right}
 
 module _ (room : ℕ) where
   abbrev endedBy : Kept → List HostCall → Kept
-  endedBy k hs = ended printing Kept HostCall Shown (Good room) view (callOf room) does shows shown k hs
+  endedBy k hs = ended printing Kept HostCall Shown (Good room) viewOf (callOf room) does shows shown k hs
 
   abbrev showingsBy : Kept → List HostCall → List Shown
-  showingsBy k hs = showings printing Kept HostCall Shown (Good room) view (callOf room) does shows shown k hs
+  showingsBy k hs = showings printing Kept HostCall Shown (Good room) viewOf (callOf room) does shows shown k hs
 
   kept-ended : (k : Kept) (hs : List HostCall) → keptAfter k hs ≡ endedBy k hs
   unfolding keptAfter acts
@@ -44,7 +42,7 @@ unfolding StrikeOutBytes
 bytes-strike-out k good hs S may =
     let room = length (k .message) in
     let left = leftOf S (eventsOf k hs) hs in
-    let x = strike-out-left printing Kept HostCall Shown (Good room) view (callOf room) does shows shown (host-right room) k (good-start k good) hs S may in
+    let x = strike-out-left printing Kept HostCall Shown (Good room) viewOf (callOf room) does shows shown (host-right room) k (good-start k good) hs S may in
     record {
       same-shown = shown-showings room k left ∙ x .left-showings ∙ ap (leftOf S (eventsOf k hs)) (sym (shown-showings room k hs));
       same-core = core-ended room k hs left (x .left-core);
@@ -55,7 +53,7 @@ pub answers-strike-out : StrikeOutAnswers
 unfolding StrikeOutAnswers
 answers-strike-out k good hs S may gs e =
     let room = length (k .message) in
-    let x = strike-out-showing printing Kept HostCall Shown (Good room) view (callOf room) does shows shown (host-right room) k (good-start k good) hs S may gs e in
+    let x = strike-out-showing printing Kept HostCall Shown (Good room) viewOf (callOf room) does shows shown (host-right room) k (good-start k good) hs S may gs e in
     record {
       whole-run = shown-showings room k hs ∙ x .whole-showings;
       same-answers = shown-showings room k gs ∙ x .same-showings;

@@ -2,7 +2,7 @@
 -- what the call makes of the two buffers, and what it shows. All by the outcomes of the book.
 use mathlib.Core.Path.{_≡_}
 use mathlib.Core.Bool.{true}
-use mathlib.Core.List.{List, [], _∷_}
+use mathlib.Core.List.{List, []}
 use Prim.Native.Nat.{ℕ, _≤_}
 use lib.ListN.{length}
 use Rattle.octets.specs.Octets.{Bytes, laid}
@@ -14,7 +14,7 @@ use Rattle.rules.specs.Responses.{Reply}
 use Rattle.rules.specs.Sound.{sound}
 use Rattle.rules.specs.Layout.{recordsSize, unpack}
 use Rattle.rules.specs.Calls.{Handed}
-use Rattle.rules.specs.Outcomes.{recordsIn, reportBytes, numberOf, Outcome, starts, opens, closes, Taking, takes, Feeding, Lent, lengths, feeds}
+use Rattle.rules.specs.Outcomes.{recordsIn, reportBytes, numberOf, starts, opens, closes, Taking, takes, Feeding, Lent, feeds}
 
 -- the records' bytes and the message buffer's
 pub record Kept : Type 0 where
@@ -71,11 +71,14 @@ pub record Shown : Type 0 where
   pub report : List ℕ
   pub entry : List ℕ
 
+abbrev pub entryShown : ℕ → List ℕ → Shown
+entryShown n entry = record { number = n; command = []; dataSet = []; report = []; entry = entry }
+
 abbrev pub numberShown : ℕ → Shown
-numberShown n = record { number = n; command = []; dataSet = []; report = []; entry = [] }
+numberShown n = entryShown n []
 
 abbrev pub takeShown : Taking → Shown
-takeShown t = record { number = t .number; command = []; dataSet = []; report = []; entry = t .entry }
+takeShown t = entryShown (t .number) (t .entry)
 
 abbrev pub fedShown : Feeding → Shown
 fedShown f = record { number = f .number; command = f .command; dataSet = f .dataSet; report = f .report; entry = [] }
@@ -89,8 +92,8 @@ shows k (taking entry) = takeShown (takes (k .records) entry (takeHanded (length
 
 -- The same as the machine has it: the records in the two buffers, the call, and what is shown of an answer.
 
-abbrev pub view : Kept → Records Core
-view k = recordsIn (unpack (k .records)) (k .message)
+abbrev pub viewOf : Kept → Records Core
+viewOf k = recordsIn (unpack (k .records)) (k .message)
 
 -- with a message buffer of this many bytes
 abbrev pub feedHanded : ℕ → List ℕ → List ℕ → List ℕ → Handed
@@ -137,7 +140,7 @@ shown (feeding fragment bytes command dataSet report) a = record {
   entry = [];
 }
 shown closing a = numberShown (numberOf a)
-shown (taking entry) a = record { number = numberOf a; command = []; dataSet = []; report = []; entry = entryIn entry a }
+shown (taking entry) a = entryShown (numberOf a) (entryIn entry a)
 
 -- Well-kept buffers.
 

@@ -9,7 +9,7 @@ use Rattle.rules.specs.declared.Core.{Core}
 use Rattle.rules.specs.Responses.{Reply}
 use Rattle.rules.specs.Layout.{unpack}
 use Rattle.rules.specs.Calls.{Handed, printing}
-use Rattle.runs.specs.Host.{Kept, HostCall, does, Shown, shows, view, callOf, shown, RecordsGood}
+use Rattle.runs.specs.Host.{Kept, HostCall, does, Shown, shows, viewOf, callOf, shown, RecordsGood}
 
 -- what the host keeps at the end of a run, and what it was shown, call by call
 unfoldable pub keptAfter : Kept → List HostCall → Kept
@@ -22,7 +22,7 @@ shownBy k (h ∷ hs) = shows k h ∷ shownBy (does k h) hs
 
 -- the same run as the machine has it: each call with its answer, and the message that it is of
 abbrev pub eventsOf : Kept → List HostCall → List (Event Handed Reply (List ℕ))
-eventsOf k hs = history printing (view k) (map (callOf (length (k .message))) hs)
+eventsOf k hs = history printing (viewOf k) (map (callOf (length (k .message))) hs)
 
 -- sessions, films, boxes, queue and next numbers, in the records' bytes
 abbrev pub coreIn : Kept → Core
