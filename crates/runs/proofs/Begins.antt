@@ -1,12 +1,12 @@
 -- Where a run begins: a start that answers 0 makes good records, of any bytes.
 -- Assumes nothing.
-use mathlib.Core.Path.{_≡_, refl}
+use mathlib.Core.Path.{_≡_, refl, subst}
 use mathlib.Core.List.{List, [], _∷_}
 use Prim.Native.Nat.{ℕ, _≤_}
 use native.Mathlib.Omega.{arith}
 use borrow.Author.Tests.{ltb-false, eqb-true}
 use lib.Dec.{eqb, ltb}
-use lib.ListN.{length, replicate}
+use lib.ListN.{length, replicate, length-replicate}
 use Rattle.choice.proofs.Picks.{pick-cases}
 use Rattle.octets.specs.Octets.{Bytes}
 use Rattle.uids.specs.Uids.{digits, component, components, isUid}
@@ -16,12 +16,13 @@ use Rattle.rules.specs.declared.Core.{Core}
 use Rattle.rules.specs.Layout.{recordsSize, unpack}
 use Rattle.rules.specs.Calls.{Handed, check, started, printing}
 use Rattle.rules.specs.Outcomes.{recordsIn, written, numberOf, Outcome, changed, unchanged, orUnchanged, starts}
+use Rattle.promises.proofs.ListLaws.{each-or, each-replicate}
 use Rattle.promises.proofs.Calls.{started-sound}
 use Rattle.promises.proofs.SizedAfter.{started-sized}
 use Rattle.promises.proofs.Kept.{stateOf}
-use Rattle.promises.proofs.Good.{good-state}
+use Rattle.promises.proofs.Good.{Byte, good-state}
 use Rattle.promises.proofs.NextCalls.{fresh-sound}
-use Rattle.runs.specs.Host.{Kept, starting, startHanded, does, shows, RecordsGood, Good}
+use Rattle.runs.specs.Host.{Kept, HostCall, starting, startHanded, does, shows, RecordsGood, Good}
 use Rattle.runs.proofs.Buffers.{laid-good}
 use Rattle.runs.proofs.Refusals.{check-cases}
 
@@ -52,7 +53,18 @@ pub start-good : (k : Kept) (root : List ℕ) (serial picture : ℕ) → Bytes (
 unfolding shows does
 start-good k root serial picture o z = record { records = starts-good (k .records) (startHanded root serial picture) o z; fixed = refl }
 
--- such as a start over 7,072 zero bytes with root 1.9.7
-pub begins-at-work : shows (record { records = replicate recordsSize 0; message = [] }) (starting (0x31 ∷ 0x2E ∷ 0x39 ∷ 0x2E ∷ 0x37 ∷ []) 100 1) .number ≡ 0
+-- such as a start over 7,072 zero bytes, with root 1.9.7, and a message buffer of 4,096
+abbrev nothingYet : Kept
+nothingYet = record { records = replicate recordsSize 0; message = replicate 4096 0 }
+
+abbrev firstCall : HostCall
+firstCall = starting (0x31 ∷ 0x2E ∷ 0x39 ∷ 0x2E ∷ 0x37 ∷ []) 100 1
+
+start-done : shows nothingYet firstCall .number ≡ 0
 unfolding shows starts step checked check numberOf isUid components component digits
-begins-at-work = refl
+start-done = refl
+
+pub begins-at-work : Good 4096 (does nothingYet firstCall)
+begins-at-work =
+    let zero-bytes : Bytes (replicate recordsSize 0) = λ i. each-or Byte (replicate recordsSize 0) i 0 (each-replicate Byte recordsSize 0 (omega arith)) (omega arith) in
+    subst (λ (room : ℕ). Good room (does nothingYet firstCall)) (length-replicate {A = ℕ} 4096 0) (start-good nothingYet _ 100 1 zero-bytes start-done)

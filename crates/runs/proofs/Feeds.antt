@@ -15,7 +15,7 @@ use Rattle.strike.specs.Service.{DataSet, Result, fails, does, feed, Check, pas
 use Rattle.strike.specs.Machine as machine
 use Rattle.strike.specs.Machine.{Fragment, fragmentIn, idle, inCommand, skippingCommand, inData, skippingData, Outcome, ignores, waits, drops, asks, collect}
 use Rattle.strike.specs.Machine.{Answer, refused, done, told, ignored, wait, dropped, failure, success, Records, Step, answered, carriedOut, fed, checked, step, laidIf, messageAfter}
-use Rattle.strike.proofs.Lies.{Lies, StepLies, checked-lies}
+use Rattle.strike.proofs.Lies.{Lies, AnswerLies, StepLies, checked-lies}
 use Rattle.rules.specs.declared.Core.{Core}
 use Rattle.rules.specs.declared.Input.{Input}
 use Rattle.rules.specs.Bounds.{leastRoom, mostRoom}
@@ -104,27 +104,29 @@ feedShown l a = record {
   entry = [];
 }
 
+-- an outcome is that of a step of the machine; a data set that it answers lies at the start of the message buffer
 pub record FeedingRight (l : Lent) (r : Records Core) (a : Answer Reply (List ℕ)) (x : Feeding) : Type 0 where
   pub good : RecordsGood (x .records)
   pub view : recordsIn (unpack (x .records)) (x .message) ≡ r
   pub fixed : length (x .message) ≡ length (l .message)
   pub same : fedShown x ≡ feedShown l a
+  pub lies : AnswerLies a (x .message)
 
 module _ (l : Lent) (r : Records Core) (message : List ℕ) (before : RecordsGood (l .records)) (after : RecordsGood (written r (l .records)))
     (back : recordsIn (unpack (written r (l .records))) message ≡ r) (long : length message ≡ length (l .message)) where
-  from-right : (a : Answer Reply (List ℕ)) → Stays a (recordsIn (unpack (l .records)) (l .message) ≡ r) → FeedingRight l r a (fedFrom l r message a)
+  from-right : (a : Answer Reply (List ℕ)) → AnswerLies a message → Stays a (recordsIn (unpack (l .records)) (l .message) ≡ r) → FeedingRight l r a (fedFrom l r message a)
   unfolding numberOf
-  from-right (refused n) stays =
+  from-right (refused n) lies stays =
       pick-cases (FeedingRight l r (refused n)) (eqb n 5) (fedOnly l r message 5) (nothingFed l n)
-      (λ e. record { good = after; view = back; fixed = long; same = ap (λ (m : ℕ). feedShown l (refused m)) (sym (eqb-true n 5 e)) })
-      (λ e. record { good = before; view = stays e; fixed = refl; same = refl })
-  from-right done stays = record { good = before; view = stays; fixed = refl; same = refl }
-  from-right (told entry) stays = record { good = before; view = stays; fixed = refl; same = refl }
-  from-right ignored stays = record { good = after; view = back; fixed = long; same = refl }
-  from-right wait stays = record { good = after; view = back; fixed = long; same = refl }
-  from-right dropped stays = record { good = after; view = back; fixed = long; same = refl }
-  from-right (failure reply d) stays = record { good = after; view = back; fixed = long; same = refl }
-  from-right (success reply d) stays = record { good = after; view = back; fixed = long; same = refl }
+      (λ e. record { good = after; view = back; fixed = long; same = ap (λ (m : ℕ). feedShown l (refused m)) (sym (eqb-true n 5 e)); lies = tt })
+      (λ e. record { good = before; view = stays e; fixed = refl; same = refl; lies = lies })
+  from-right done lies stays = record { good = before; view = stays; fixed = refl; same = refl; lies = lies }
+  from-right (told entry) lies stays = record { good = before; view = stays; fixed = refl; same = refl; lies = lies }
+  from-right ignored lies stays = record { good = after; view = back; fixed = long; same = refl; lies = lies }
+  from-right wait lies stays = record { good = after; view = back; fixed = long; same = refl; lies = lies }
+  from-right dropped lies stays = record { good = after; view = back; fixed = long; same = refl; lies = lies }
+  from-right (failure reply d) lies stays = record { good = after; view = back; fixed = long; same = refl; lies = lies }
+  from-right (success reply d) lies stays = record { good = after; view = back; fixed = long; same = refl; lies = lies }
 
 module _ (l : Lent) (fragment : List ℕ) (good : RecordsGood (l .records)) (bytes : Bytes fragment) where
   abbrev before : Records Core
@@ -155,6 +157,7 @@ module _ (l : Lent) (fragment : List ℕ) (good : RecordsGood (l .records)) (byt
       (left-view (l .records) (l .message) (feed fragment (lengths l)) good (bytes-each fragment bytes) (after .records) message refl (lies .input-lies))
       (lies .same-length)
       (after .answer)
+      (lies .answer-lies)
       (checked-stays (check (unpack (l .records) .core) (feed fragment (lengths l))) before fragment (lengths l))
 
   pub feeds-right : FeedingRight l (after .records) (after .answer) (feeds l fragment)
