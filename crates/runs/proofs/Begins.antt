@@ -54,10 +54,10 @@ unfolding shows does
 start-good k root serial picture o z = record { records = starts-good (k .records) (startHanded root serial picture) o z; fixed = refl }
 
 -- such as a start over 7,072 zero bytes, with root 1.9.7, and a message buffer of 4,096
-abbrev nothingYet : Kept
+abbrev pub nothingYet : Kept
 nothingYet = record { records = replicate recordsSize 0; message = replicate 4096 0 }
 
-abbrev firstCall : HostCall
+abbrev pub firstCall : HostCall
 firstCall = starting (0x31 ∷ 0x2E ∷ 0x39 ∷ 0x2E ∷ 0x37 ∷ []) 100 1
 
 start-done : shows nothingYet firstCall .number ≡ 0

@@ -10,3 +10,4 @@ pub mod Right
 pub mod Begins
 pub mod Numbers
 pub mod StrikeOut
+pub mod AtWork

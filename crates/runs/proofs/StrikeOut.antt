@@ -4,9 +4,9 @@ use mathlib.Core.Path.{_≡_, refl, sym, ap, _∙_}
 use mathlib.Core.List.{List, [], _∷_}
 use Prim.Native.Nat.{ℕ}
 use lib.ListN.{length}
-use Rattle.strike.specs.Messages.{leftOf}
+use Rattle.strike.specs.Messages.{leftOf, answersOf, together}
 use Rattle.strike.proofs.Refine.{acts}
-use Rattle.strike.proofs.Showing.{showings, ended, strike-out-showing, strike-out-left}
+use Rattle.strike.proofs.Showing.{showings, ended, whole-showings, strike-out-showing, strike-out-left}
 use Rattle.rules.specs.Calls.{printing}
 use Rattle.runs.specs.Host.{Kept, HostCall, does, Shown, shows, viewOf, callOf, shown, RecordsGood, Good}
 use Rattle.runs.specs.Runs.{keptAfter, shownBy, eventsOf, coreIn, StrikeOutBytes, StrikeOutAnswers}
@@ -35,6 +35,12 @@ module _ (room : ℕ) where
 abbrev good-start : (k : Kept) → RecordsGood (k .records) → Good (length (k .message)) k
 good-start k good = record { records = good; fixed = refl }
 
+-- what a run shows is the machine's answers, each in the buffers lent for it, and nothing else
+pub whole-shown : (k : Kept) → RecordsGood (k .records) → (hs : List HostCall) → shownBy k hs ≡ together shown hs (answersOf (eventsOf k hs))
+whole-shown k good hs =
+    let room = length (k .message) in
+    shown-showings room k hs ∙ whole-showings printing Kept HostCall Shown (Good room) viewOf (callOf room) does shows shown (host-right room) k (good-start k good) hs
+
 -- Strike any whole messages that were answered with a failure, dropped, or cut off by the next command: every other call shows the same,
 -- byte for byte, and sessions, films, boxes, queue and next numbers end the same in the records' bytes.
 pub bytes-strike-out : StrikeOutBytes
@@ -55,7 +61,6 @@ answers-strike-out k good hs S may gs e =
     let room = length (k .message) in
     let x = strike-out-showing printing Kept HostCall Shown (Good room) viewOf (callOf room) does shows shown (host-right room) k (good-start k good) hs S may gs e in
     record {
-      whole-run = shown-showings room k hs ∙ x .whole-showings;
       same-answers = shown-showings room k gs ∙ x .same-showings;
       same-core = core-ended room k hs gs (x .same-core);
     }

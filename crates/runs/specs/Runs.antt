@@ -43,7 +43,6 @@ StrikeOutBytes = (k : Kept) → RecordsGood (k .records) → (hs : List HostCall
 -- The same of any calls gs that the machine reads as those that are left: what stood in the buffers lent for answers may differ, and
 -- each shows the same answer, laid over what stood there.
 pub record SameAnswers (k : Kept) (hs gs : List HostCall) (S : ℕ → Bool) : Type 0 where
-  pub whole-run : shownBy k hs ≡ together shown hs (answersOf (eventsOf k hs))
   pub same-answers : shownBy k gs ≡ together shown gs (answersOf (without S (eventsOf k hs)))
   pub same-core : coreIn (keptAfter k gs) ≡ coreIn (keptAfter k hs)
 

@@ -11,7 +11,7 @@ use Rattle.strike.specs.Messages.{Count, Event, without, callsOf, answer
 use Rattle.strike.proofs.Fate.{strike-out}
 
 -- the events of a run have its answers
-history-answers : (G : Service) (cs : List (Call (G .Arg))) (s : Records (G .Core)) (n : Count) → answersOf (historyFrom G s n cs) ≡ answers G s cs
+pub history-answers : (G : Service) (cs : List (Call (G .Arg))) (s : Records (G .Core)) (n : Count) → answersOf (historyFrom G s n cs) ≡ answers G s cs
 unfolding historyFrom answers eventOf
 history-answers G [] s n = refl
 history-answers G (c ∷ cs) s n = ap (λ (rest : List (Answer (G .Response) (G .Told))). step G s c .answer ∷ rest) (history-answers G cs _ _)
@@ -40,7 +40,8 @@ module _ (G : Service) (State Handed : Type 0) (Good : State → Type 0) (view :
     pub same-replies : replies s gs ≡ answersOf left
     pub same-core : view (acts s gs) .core ≡ view (acts s hs) .core
 
-  run-replies : Right → (hs : List Handed) (s : State) → Good s → replies s hs ≡ answers G (view s) (map read hs)
+  -- the replies of a run are the machine's answers
+  pub run-replies : Right → (hs : List Handed) (s : State) → Good s → replies s hs ≡ answers G (view s) (map read hs)
   unfolding replies answers
   run-replies right [] s g = refl
   run-replies right (h ∷ hs) s g =

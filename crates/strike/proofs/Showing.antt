@@ -9,7 +9,7 @@ use Rattle.choice.specs.Pick.{pick}
 use Rattle.strike.specs.Service.{Call, Service}
 use Rattle.strike.specs.Machine.{Answer, Records, step}
 use Rattle.strike.specs.Messages.{Count, countAfter, Event, struck, without, leftOf, callsOf, answersOf, together, strikeable, fateOf, roleOf, eventOf, historyFrom, history}
-use Rattle.strike.proofs.Refine.{acts, replies, Right, strike-out-of}
+use Rattle.strike.proofs.Refine.{history-answers, acts, replies, Right, run-replies, strike-out-of}
 
 module _ (G : Service) (State Handed Shown : Type 0) (Good : State → Type 0) (view : State → Records (G .Core)) (read : Handed → Call (G .Arg))
     (act : State → Handed → State) (shows : State → Handed → Shown) (shown : Handed → Answer (G .Response) (G .Told) → Shown) where
@@ -45,9 +45,15 @@ module _ (G : Service) (State Handed Shown : Type 0) (Good : State → Type 0) (
   run-shows right [] s g = refl
   run-shows right (h ∷ hs) s g = ap₂ _∷_ (right .right-shows s h g) (run-shows right hs (act s h) (right .right-good s h g))
 
+  -- a run shows what the buffers handed over tell of the machine's answers, and nothing else
+  pub whole-showings : RightShowing → (s : State) → Good s → (hs : List Handed) → showings s hs ≡ together shown hs (answersOf (events s hs))
+  unfolding history
+  whole-showings right s g hs =
+      run-shows right hs s g
+      ∙ ap (together shown hs) (run-replies G State Handed Good view read act answer (right-answers right) hs s g ∙ sym (history-answers G (map read hs) (view s) _))
+
   -- the run gs of what is left shows what its own buffers tell of the answers that are left, and ends with the same core
   pub record SameShowing (s : State) (hs gs : List Handed) (left : List (Event Arg Response Told)) : Type 0 where
-    pub whole-showings : showings s hs ≡ together shown hs (answersOf (events s hs))
     pub same-showings : showings s gs ≡ together shown gs (answersOf left)
     pub same-core : view (ended s gs) .core ≡ view (ended s hs) .core
 
@@ -59,7 +65,6 @@ module _ (G : Service) (State Handed Shown : Type 0) (Good : State → Type 0) (
   strike-out-showing right s g hs S h gs e =
       let x = strike-out-of G State Handed Good view read act answer (right-answers right) s g hs S h gs e in
       record {
-        whole-showings = run-shows right hs s g ∙ ap (together shown hs) (x .whole-replies);
         same-showings = run-shows right gs s g ∙ ap (together shown gs) (x .same-replies);
         same-core = x .same-core;
       }
@@ -106,6 +111,6 @@ module _ (G : Service) (State Handed Shown : Type 0) (Good : State → Type 0) (
   strike-out-left right s g hs S h =
       let x = strike-out-showing right s g hs S h (leftOf S (events s hs) hs) (left-read S hs (view s) _) in
       record {
-        left-showings = x .same-showings ∙ left-shown S (events s hs) hs ∙ ap (leftOf S (events s hs)) (sym (x .whole-showings));
+        left-showings = x .same-showings ∙ left-shown S (events s hs) hs ∙ ap (leftOf S (events s hs)) (sym (whole-showings right s g hs));
         left-core = x .same-core;
       }
