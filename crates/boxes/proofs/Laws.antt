@@ -13,6 +13,7 @@ use Rattle.choice.specs.Pick.{pick, both}
 use Rattle.choice.specs.Rules.{firstBroken}
 use Rattle.choice.proofs.Picks.{both-true}
 use Rattle.headers.specs.declared.Inside.{Inside}
+use Rattle.elements.specs.declared.Found.{Found}
 use Rattle.elements.specs.declared.Found.the-variants.{Sequence}
 use Rattle.elements.specs.declared.Items.{Items}
 use Rattle.elements.specs.declared.Items.the-variants.{Empty, One, Several}
@@ -58,6 +59,11 @@ sequence-in d explicit tag inside e =
     let g = subst (FoundIn 8 (length d)) e (find-within d explicit 4 (whole d) tag (omega arith)) in
     (g .1 .0, g .1 .1)
 
+-- what was found in all of a data set
+pub found-whole : (d : List ℕ) (explicit : Bool) (tag : ℕ) (inside : Inside) (f g : Found) → inside ≡ whole d → f ≡ findAt d explicit 4 inside tag → f ≡ g
+    → findAt d explicit 4 (whole d) tag ≡ g
+found-whole d explicit tag inside f g e r h = ap (λ (i : Inside). findAt d explicit 4 i tag) (sym e) ∙ sym r ∙ h
+
 -- what the items of Image Sequence say
 items-image : (d : List ℕ) (explicit : Bool) (items : Items) → imageMeant d explicit (itemsImage items) ≡ imageOf (listingOf d explicit) items
 items-image d explicit Empty = refl
@@ -83,10 +89,11 @@ pub worst-wrong : worst (wrong ∷ []) ≡ 1
 unfolding worst any
 worst-wrong = refl
 
--- what an attribute gives, by the test that it is given
-pub kept-by : {A : Type 0} (isEmpty : List ℕ → Bool) (l : Listing) (tag : ℕ) (read : List ℕ → A) (kept : A) (test : Bool)
-    → givenBy (kindOf (look l tag)) (isEmpty (valueOf l tag)) ≡ test → orKept isEmpty l tag read kept ≡ pick test (read (valueOf l tag)) kept
-kept-by isEmpty l tag read kept test e = rw (given-by isEmpty l (look l tag), e)
+-- what an attribute gives, by the kind and the tests that the code has
+pub kept-by : {A : Type 0} (isEmpty : List ℕ → Bool) (l : Listing) (tag : ℕ) (read : List ℕ → A) (kept : A) (kind : ℕ) (none given test : Bool)
+    → kind ≡ kindOf (look l tag) → none ≡ isEmpty (valueOf l tag) → given ≡ givenBy kind none → given ≡ test
+    → orKept isEmpty l tag read kept ≡ pick test (read (valueOf l tag)) kept
+kept-by isEmpty l tag read kept kind none given test k e g t = rw (given-by isEmpty l (look l tag), ← k, ← e, ← g, t)
 
 box-worst : (boxes : ℕ) (l : Listing)
     → worst (boxStandings boxes l)

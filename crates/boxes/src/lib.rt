@@ -231,11 +231,7 @@ fn image_of(items: Items) -> Image
 pub fn image_in(d: &[u8], explicit: bool) -> Image
     ensures { λ r. ⌜ (imageMeant (now (d .entry)) explicit r ≡ imageIn (listingOf (now (d .entry)) explicit)) × ImageWithin (length (now (d .entry))) r ⌝ }
 {
-    let whole = Inside {
-        from: 0,
-        stop: d.len(),
-        loose: false,
-    };
+    let whole = standings::whole(d);
     match elements::find(d, explicit, 4, whole, IMAGE_SEQUENCE) {
         Found::Missing => Image::Keeps,
         Found::Value(_) => Image::TooMany,
@@ -259,11 +255,7 @@ fn sequence_worst(d: &[u8], explicit: bool, image: Image) -> u8
 fn position_severity(boxes: usize, d: &[u8], explicit: bool) -> u8
     ensures { λ r. ⌜ r ≡ severity (number (λ n. both (leb 1 n) (leb n boxes)) (listingOf (now (d .entry)) explicit) 0x2020_0010) ⌝ }
 {
-    let whole = Inside {
-        from: 0,
-        stop: d.len(),
-        loose: false,
-    };
+    let whole = standings::whole(d);
     let n = us(d, explicit, 4, whole, POSITION) as usize;
     if n < 1 {
         return us_severity(d, explicit, 4, whole, POSITION, false);
@@ -274,11 +266,7 @@ fn position_severity(boxes: usize, d: &[u8], explicit: bool) -> u8
 fn polarity_severity(d: &[u8], explicit: bool) -> u8
     ensures { λ r. ⌜ r ≡ severity (optional (code polarities (listingOf (now (d .entry)) explicit) 0x2020_0020)) ⌝ }
 {
-    let whole = Inside {
-        from: 0,
-        stop: d.len(),
-        loose: false,
-    };
+    let whole = standings::whole(d);
     let at = standings::look(d, explicit, 4, whole, POLARITY);
     let kind = at.kind;
     let place = at.value;
@@ -310,11 +298,7 @@ fn picture_after(next: u32, image: Image, old: u32) -> u32
 fn polarity_or(d: &[u8], explicit: bool, kept: u8) -> u8
     ensures { λ r. ⌜ r ≡ orKept blank (listingOf (now (d .entry)) explicit) 0x2020_0020 (codeIn polarities) kept ⌝ }
 {
-    let whole = Inside {
-        from: 0,
-        stop: d.len(),
-        loose: false,
-    };
+    let whole = standings::whole(d);
     let at = standings::look(d, explicit, 4, whole, POLARITY);
     let kind = at.kind;
     let place = at.value;
@@ -330,11 +314,7 @@ pub fn box_with(next: u32, d: &[u8], explicit: bool, b: ImageBox) -> ImageBox
     requires { ⌜ us (listingOf (now d) explicit) 0x2020_0010 < 256 ⌝ }
     ensures { λ r. ⌜ r ≡ boxWith next (listingOf (now (d .entry)) explicit) b ⌝ }
 {
-    let whole = Inside {
-        from: 0,
-        stop: d.len(),
-        loose: false,
-    };
+    let whole = standings::whole(d);
     let position = us(d, explicit, 4, whole, POSITION) as u8;
     let polarity = polarity_or(d, explicit, b.polarity);
     let old = b.picture;

@@ -5,6 +5,7 @@ use headers::Part;
 ghost use mathlib.Core.Path.{_≡_};
 ghost use Prim.Native.Nat.{_≤_};
 ghost use lib.ListN.{length};
+ghost use Rattle.elements.specs.Reader.{whole};
 ghost use Rattle.elements.specs.Find.{findAt};
 ghost use Rattle.rules.specs.Commands.{placed, bytesOf};
 ghost use Rattle.standings.specs.Severity.{kindOf, severityBy, optionalBy, givenBy, worse, statusOf};
@@ -13,6 +14,17 @@ ghost use Rattle.standings.specs.Severity.{kindOf, severityBy, optionalB
 pub struct Attribute {
     pub kind: u8,
     pub value: Part,
+}
+
+// All of a data set.
+pub fn whole(d: &[u8]) -> Inside
+    ensures { λ r. ⌜ (r ≡ whole (now (d .entry))) × (r .from ≤ r .stop) × (r .stop ≤ length (now (d .entry))) ⌝ }
+{
+    Inside {
+        from: 0,
+        stop: d.len(),
+        loose: false,
+    }
 }
 
 fn seen(found: Found) -> Attribute

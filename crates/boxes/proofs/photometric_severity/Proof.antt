@@ -10,10 +10,9 @@ use Rattle.boxes.proofs.photometric_severity.Tie as tie
 
 returns : tie.Need-returns
 returns c =
-    let s = c .before .before .before .before .before .before .before .args .d .now in
     let l = (listing (c .before .before .before .before .before .before .before .args .d .now) (c .before .before .before .before .before .before .before .args .explicit) 3 (c .before .before .before .before .before .before .before .args .inside)) in
     let e = c .before .before .before .before .before .look .ensures in
-    let v = c .before .before .before .value .ensures ∙ ap (bytesOf s) (e .1) in
+    let v = c .before .before .before .value .ensures ∙ ap (bytesOf (l .bytes)) (e .1) in
     c .severity .ensures
     ∙ rw (e .0, c .before .before .is-blank .ensures, c .before .photometric-in .ensures .0, v) (sym (mandatory-severity blank (codeAllowed photometrics) l (look l 0x0028_0004)))
 

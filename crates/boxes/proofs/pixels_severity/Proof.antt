@@ -17,7 +17,7 @@ unfolding pixelStanding
 returns c =
     let l = (listing (c .before .before .before .before .before .before .args .d .now) (c .before .before .before .before .before .before .args .explicit) 3 (c .before .before .before .before .before .before .args .inside)) in
     let e = c .before .before .before .before .look .ensures in
-    let v = c .before .before .value .ensures ∙ ap (bytesOf (c .before .before .before .before .before .before .args .d .now)) (e .1) in
+    let v = c .before .before .value .ensures ∙ ap (bytesOf (l .bytes)) (e .1) in
     c .severity .ensures
     ∙ rw (e .0, c .before .pixel-length .ensures, v) (sym (mandatory-severity noBytes (λ (w : List ℕ). eqb (length w) (pixelLength l)) l (look l 0x7FE0_0010)))
 

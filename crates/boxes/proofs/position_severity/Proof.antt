@@ -3,7 +3,7 @@ use mathlib.Core.Path.{_∙_}
 use lib.Dec.{leb}
 use borrow.Author.Tests.{lt-leb, le-leb}
 use Rattle.choice.specs.Pick.{both}
-use Rattle.rules.specs.Attributes.{listingOf}
+use Rattle.boxes.specs.Images.{listing}
 use Rattle.boxes.proofs.Laws.{number-by}
 use borrow.Author.Needs.{needs}
 use Rattle.boxes.proofs.position_severity.Statement.{statement}
@@ -11,17 +11,19 @@ use Rattle.boxes.proofs.position_severity.Tie as tie
 
 returns : tie.Need-returns
 returns c =
-    let boxes = c .before .before .before .before .args .boxes in
-    c .us-severity .ensures
-    ∙ number-by (λ (n : ℕ). both (leb 1 n) (leb n boxes)) (listingOf (c .before .before .before .before .args .d .now) (c .before .before .before .before .args .explicit)) 0x2020_0010 _ _ (c .before .before .us .ensures .0) (rw (lt-leb _ _ (c .before .if1 .taken)))
+    let boxes = c .before .before .before .before .before .args .boxes in
+    rw (← (c .before .before .before .whole .ensures .0))
+    (c .us-severity .ensures
+    ∙ number-by (λ (n : ℕ). both (leb 1 n) (leb n boxes)) (listing (c .before .before .before .before .before .args .d .now) (c .before .before .before .before .before .args .explicit) 4 (c .before .before .before .whole .result)) 0x2020_0010 _ _ (c .before .before .us .ensures .0) (rw (lt-leb _ _ (c .before .if1 .taken))))
 
 returns-2 : tie.Need-returns-2
 returns-2 c =
-    let boxes = c .before .before .before .before .args .boxes in
-    c .us-severity2 .ensures
-    ∙ number-by (λ (n : ℕ). both (leb 1 n) (leb n boxes)) (listingOf (c .before .before .before .before .args .d .now) (c .before .before .before .before .args .explicit)) 0x2020_0010 _ _ (c .before .before .us .ensures .0) (rw (le-leb _ _ (c .before .if1 .left)))
+    let boxes = c .before .before .before .before .before .args .boxes in
+    rw (← (c .before .before .before .whole .ensures .0))
+    (c .us-severity2 .ensures
+    ∙ number-by (λ (n : ℕ). both (leb 1 n) (leb n boxes)) (listing (c .before .before .before .before .before .args .d .now) (c .before .before .before .before .before .args .explicit) 4 (c .before .before .before .whole .result)) 0x2020_0010 _ _ (c .before .before .us .ensures .0) (rw (le-leb _ _ (c .before .if1 .left))))
 
 pub position-severity-spec : {M : Type 1} → statement M
 position-severity-spec =
     tie.close
-    (tie.spec (λ c κs. search needs) (λ c. search needs) (λ c κs. search needs) returns (λ c κs. search needs) returns-2)
+    (tie.spec (λ c κs. search needs) (λ c κs. search needs) (λ c. search needs) (λ c κs. search needs) returns (λ c κs. search needs) returns-2)
