@@ -1,4 +1,4 @@
 -- What one turn of each loop does; lists that are filled to so many places; shelves and queues, which hold such lists.
 mod Without
-mod Filled
+pub mod Filled
 mod Tidied
