@@ -1,2 +1,3 @@
 -- The laws of verdicts.
 pub mod Laws
+pub mod Plans
