@@ -2,16 +2,18 @@
 -- Assumes nothing.
 use Prim.Native.Nat.{ℕ}
 use mathlib.Core.Path.{_≡_, refl, sym, ap, _∙_}
-use mathlib.Core.Bool.{Bool, true, false}
+use mathlib.Core.Bool.{true, false}
 use mathlib.Core.List.{List, [], _∷_, _++_}
 use lib.Dec.{eqb}
 use borrow.Author.Tests.{eq-eqb, ne-eqb}
-use Rattle.choice.specs.Pick.{pick, both, not}
+use Rattle.choice.specs.Pick.{pick, not}
 use Rattle.choice.specs.Rules.{Rule, _⇒_, firstOr, firstBroken, numbered}
-use Rattle.choice.proofs.Picks.{both-true, not-true}
+use Rattle.choice.proofs.Picks.{Kept, both-true, not-true, clash}
+use Rattle.rules.specs.declared.Core.{Core}
 use Rattle.rules.specs.declared.Request.{Request}
-use Rattle.rules.specs.Checks.{Plan, failed, answered, also}
-use Rattle.verdicts.specs.Verdicts.{decidedBy}
+use Rattle.rules.specs.Checks.{Done, Plan, failed, answered, also}
+use Rattle.verdicts.specs.declared.Verdict.{Verdict}
+use Rattle.verdicts.specs.Verdicts.{meant, decidedBy, Decides}
 
 first-append : {A : Type 0} (refused : ℕ → A) (rules others : List Rule) (kept : A) → numbered rules ≡ true
     → firstOr refused (rules ++ others) kept ≡ pick (eqb (firstBroken rules) 0) (firstOr refused others kept) (refused (firstBroken rules))
@@ -31,3 +33,21 @@ module _ (c : List ℕ) (r : Request) (rules : List Rule) (plan : Plan) (h : num
   -- none is
   pub plan-kept : n ≡ 0 → decidedBy c r (also rules plan) ≡ decidedBy c r plan
   plan-kept kept = by-number ∙ rw (eq-eqb n 0 kept)
+
+  -- so a failure decides, or else what decides the plan
+  pub broken-decides : (k : Core) (v : Verdict) → (meant k c r v ≡ failed c r n) × (v .core ≡ k) → (n ≡ 0 → ⊥) → Decides k c r (also rules plan) v
+  broken-decides k v f broken = (f .0 ∙ sym (plan-broken broken), λ g. f .1)
+
+  pub kept-decides : (k : Core) (v : Verdict) → n ≡ 0 → Decides k c r plan v → Decides k c r (also rules plan) v
+  kept-decides k v kept d = (d .0 ∙ sym (plan-kept kept), d .1)
+
+-- a verdict that is done decides a plan without rules
+pub done-decides : (k : Core) (c : List ℕ) (r : Request) (done : Done) (v w : Verdict) → v ≡ w → w .done ≡ true → meant k c r w ≡ answered c r done → Decides k c r (record { rules = []; done = done }) v
+unfolding decidedBy
+done-decides k c r done v w e d m = (ap (meant k c r) e ∙ m, λ f. absurd (clash f (ap (λ x. x .done) e ∙ d)))
+
+-- where no rule is broken, each is kept
+pub none-broken : (rules : List Rule) → numbered rules ≡ true → firstBroken rules ≡ 0 → Kept rules
+none-broken [] h e = tt
+none-broken ((true ⇒ n) ∷ rules) h e = absurd (clash (not-true (eqb n 0) (both-true (not (eqb n 0)) (numbered rules) h .0)) (eq-eqb n 0 e))
+none-broken ((false ⇒ n) ∷ rules) h e = (refl, none-broken rules (both-true (not (eqb n 0)) (numbered rules) h .1) e)

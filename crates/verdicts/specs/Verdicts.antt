@@ -1,5 +1,6 @@
 -- What a request comes to, as code hands it on, and the result of the book that it means.
 use Prim.Native.Nat.{ℕ}
+use mathlib.Core.Path.{_≡_}
 use mathlib.Core.Bool.{true, false}
 use mathlib.Core.List.{List, [], map}
 use mathlib.Core.Option.{Option, none, some}
@@ -59,6 +60,10 @@ quiet k name = record { done = true; status = 0; core = k; instance = name; noti
 -- checks 6 to 11 by the plan of the operation
 unfoldable pub decidedBy : List ℕ → Request → Plan → Result Core Reply
 decidedBy c r plan = firstOr (failed c r) (plan .rules) (answered c r (plan .done))
+
+-- a verdict is what the plan comes to, and a failure changes nothing
+abbrev pub Decides : Core → List ℕ → Request → Plan → Verdict → Type 0
+Decides k c r plan v = (meant k c r v ≡ decidedBy c r plan) × (v .done ≡ false → v .core ≡ k)
 
 -- the name that a failure shows: "a failed create leaves it out if none was sent .. or it breaks PS3.5; C-ECHO has none"
 unfoldable pub sentOrNone : List ℕ → Part → Name
