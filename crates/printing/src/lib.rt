@@ -314,7 +314,8 @@ fn film_within(a: [Film; 8], n: usize, i: usize) -> Film
     xs[i]
 }
 
-fn film_at(s: Shelf, i: usize) -> Film
+// The film at a place.
+pub fn film_at(s: Shelf, i: usize) -> Film
     requires { ⌜ i < length (filmsOf s) ⌝ }
     ensures { λ r. ⌜ r ≡ getD (filmsOf s) i noFilm ⌝ }
 {

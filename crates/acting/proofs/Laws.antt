@@ -1,0 +1,125 @@
+-- What printing and deleting come to.
+-- Assumes nothing.
+use Prim.Native.Nat.{ℕ, _+_, _<_, _≤_}
+use mathlib.Core.Path.{_≡_, refl, sym, ap, subst, _∙_}
+use mathlib.Core.Bool.{Bool, true, false}
+use mathlib.Core.List.{List, [], _∷_}
+use mathlib.Core.Option.{Option, none, some}
+use native.Mathlib.Omega.{arith}
+use lib.Dec.{eqb}
+use lib.ListN.{length}
+use borrow.Author.Tests.{eq-eqb, ne-eqb, eqb-false, ltb-false}
+use Rattle.choice.specs.Pick.{pick, not}
+use Rattle.choice.specs.Rules.{Rule, _⇒_, firstBroken}
+use Rattle.uids.specs.Uids.{isUid}
+use Rattle.strike.specs.Service.{Result, noData, does}
+use Rattle.rules.specs.declared.Core.{Core}
+use Rattle.rules.specs.declared.Film.{Film}
+use Rattle.rules.specs.declared.Name.{Name}
+use Rattle.rules.specs.declared.Action.{Action}
+use Rattle.rules.specs.declared.Target.{Target}
+use Rattle.rules.specs.declared.Operation.the-variants.{Act, Delete}
+use Rattle.rules.specs.declared.Request.{Request}
+use Rattle.rules.specs.Lists.{any}
+use Rattle.rules.specs.Records.{noName, sentName, filmsOf, shelved, entriesOf, Instance, named}
+use Rattle.rules.specs.Commands.{uidAt}
+use Rattle.rules.specs.Effects.{printed, noneFilled, queueRoom}
+use Rattle.rules.specs.Responses.{Reply, reply, filmsQueued}
+use Rattle.rules.specs.Checks.{Plan, says, failed, quietly, printedWith, nothing, targetRules, sessionPrintRules, filmPrintRules, actionPlan, deletePlan, also, planOf}
+use Rattle.verdicts.specs.declared.Verdict.{Verdict}
+use Rattle.verdicts.specs.Verdicts.{meant, quiet, Decides}
+use Rattle.verdicts.specs.Ready.{Ready}
+use Rattle.verdicts.proofs.Laws.{sent-shown, quiet-meant}
+use Rattle.verdicts.proofs.Plans.{broken-decides, kept-decides, done-decides, none-broken}
+use Rattle.acting.specs.Queuing.{queuing}
+
+-- Room in the queue, where check 10 finds nothing wrong.
+
+pub session-room : (k : Core) (n : ℕ) → n ≡ firstBroken (sessionPrintRules k) → n ≡ 0 → length (entriesOf (k .queue)) + length (filmsOf (k .shelf)) ≤ 16
+session-room k n e kept =
+    let rules = none-broken (sessionPrintRules k) refl (sym e ∙ kept) in
+    omega (arith, eqb-false (length (filmsOf (k .shelf))) 0 (rules .0), ltb-false (queueRoom k) (length (filmsOf (k .shelf))) (rules .1 .1 .0))
+
+pub film-room : (k : Core) (i n : ℕ) → n ≡ firstBroken (filmPrintRules k i) → n ≡ 0 → length (entriesOf (k .queue)) < 16
+film-room k i n e kept = omega (arith, ltb-false (queueRoom k) 1 (none-broken (filmPrintRules k i) refl (sym e ∙ kept) .1 .0))
+
+pub films-counted : (k : Core) → Ready k → k .shelf .count ≡ length (filmsOf (k .shelf))
+unfolding shelved
+films-counted k h = ap (λ shelf. shelf .count) (sym (h .1))
+
+pub one-empty : (f : Film) → noneFilled f ≡ any noneFilled (f ∷ [])
+unfolding any
+one-empty f = same (noneFilled f)
+  where
+    same : (b : Bool) → b ≡ pick b true false
+    same true = refl
+    same false = refl
+
+-- Verdicts on plans without rules.
+
+-- films queued
+abbrev pub queues : Core → ℕ → List Film → List ℕ → Plan
+queues k warning films uid = record { rules = []; done = printedWith k warning films uid }
+
+module _ (k : Core) (c : List ℕ) (r : Request) (v : Verdict) where
+  module _ (uid : List ℕ) (h : isUid uid ≡ true) (after : Core) (name : Name) (named-so : name ≡ sentName uid) where
+    pub queued-decides : (warning : ℕ) (films : List Film) (status count : ℕ) → v ≡ queuing after name status count
+        → after ≡ printed k films → status ≡ pick (any noneFilled films) warning 0 → count ≡ length films → Decides k c r (queues k warning films uid) v
+    unfolding meant
+    queued-decides warning films status count e printed-so warned-so counted =
+        done-decides k c r (printedWith k warning films uid) v (queuing (printed k films) (sentName uid) (pick (any noneFilled films) warning 0) (length films))
+        (e ∙ rw (printed-so, named-so, warned-so, counted)) refl (ap (λ (i : Option (List ℕ)). queued i) (sent-shown (k .numbers) uid h))
+      where
+        queued : Option (List ℕ) → Result Core Reply
+        queued i = does (printed k films) (reply (says c r i) (pick (any noneFilled films) warning 0) [] (filmsQueued (length films)))
+
+    -- something deleted
+    pub deleted-decides : (left : Core) → v ≡ quiet after name → after ≡ left → Decides k c r (record { rules = []; done = quietly left (some uid) }) v
+    deleted-decides left e left-so =
+        done-decides k c r (quietly left (some uid)) v (quiet left (sentName uid)) (e ∙ rw (left-so, named-so)) refl
+        (quiet-meant k left c r (sentName uid) (some uid) (sent-shown (k .numbers) uid h))
+
+  pub nothing-decides : (name : Name) → v ≡ quiet k name → name ≡ noName → Decides k c r (nothing k) v
+  nothing-decides name e unnamed = done-decides k c r (quietly k none) v (quiet k noName) (e ∙ rw unnamed) refl (quiet-meant k k c r noName none refl)
+
+-- Checks 6 and 7, and then the plan of the instance.
+
+abbrev otherAction : Action → List Rule
+otherAction a = (not (eqb (a .kind) 1) ⇒ 0x0123) ∷ []
+
+abbrev print : Core → List ℕ → Action → Plan
+print k c a = actionPlan k (named k (uidAt c (a .instance))) (uidAt c (a .instance))
+
+abbrev remove : Core → List ℕ → Target → Plan
+remove k c t = deletePlan k (named k (uidAt c (t .instance))) (uidAt c (t .instance))
+
+module _ (k : Core) (c : List ℕ) (r : Request) (v : Verdict) (n : ℕ) where
+  module _ (a : Action) (e : n ≡ firstBroken (targetRules k c (a .class) (a .instance))) where
+    pub acted-refused : (meant k c r v ≡ failed c r n) × (v .core ≡ k) → (n ≡ 0 → ⊥) → Decides k c r (planOf k c noData (Act a)) v
+    unfolding planOf targetRules
+    acted-refused f broken = broken-decides c r (targetRules k c (a .class) (a .instance)) (also (otherAction a) (print k c a)) refl n e k v f broken
+
+    module _ (kept : n ≡ 0) where
+      pub acted-otherwise : (meant k c r v ≡ failed c r 0x0123) × (v .core ≡ k) → (a .kind ≡ 1 → ⊥) → Decides k c r (planOf k c noData (Act a)) v
+      unfolding planOf targetRules
+      acted-otherwise f other =
+          kept-decides c r (targetRules k c (a .class) (a .instance)) (also (otherAction a) (print k c a)) refl n e k v kept
+          (broken-decides c r (otherAction a) (print k c a) refl 0x0123 (rw (ne-eqb (a .kind) 1 other)) k v f (λ z. omega (arith, z)))
+
+      pub acted-print : a .kind ≡ 1 → (x : Instance) → x ≡ named k (uidAt c (a .instance)) → Decides k c r (actionPlan k x (uidAt c (a .instance))) v → Decides k c r (planOf k c noData (Act a)) v
+      unfolding planOf targetRules
+      acted-print one x named-x d =
+          kept-decides c r (targetRules k c (a .class) (a .instance)) (also (otherAction a) (print k c a)) refl n e k v kept
+          (kept-decides c r (otherAction a) (print k c a) refl 0 (rw (eq-eqb (a .kind) 1 one)) k v refl
+          (subst (λ y. Decides k c r (actionPlan k y (uidAt c (a .instance))) v) named-x d))
+
+  module _ (t : Target) (e : n ≡ firstBroken (targetRules k c (t .class) (t .instance))) where
+    pub deleted-refused : (meant k c r v ≡ failed c r n) × (v .core ≡ k) → (n ≡ 0 → ⊥) → Decides k c r (planOf k c noData (Delete t)) v
+    unfolding planOf targetRules
+    deleted-refused f broken = broken-decides c r (targetRules k c (t .class) (t .instance)) (remove k c t) refl n e k v f broken
+
+    pub deleted-whom : n ≡ 0 → (x : Instance) → x ≡ named k (uidAt c (t .instance)) → Decides k c r (deletePlan k x (uidAt c (t .instance))) v → Decides k c r (planOf k c noData (Delete t)) v
+    unfolding planOf targetRules
+    deleted-whom kept x named-x d =
+        kept-decides c r (targetRules k c (t .class) (t .instance)) (remove k c t) refl n e k v kept
+        (subst (λ y. Decides k c r (deletePlan k y (uidAt c (t .instance))) v) named-x d)
