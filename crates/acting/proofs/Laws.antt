@@ -8,9 +8,10 @@ use mathlib.Core.Option.{Option, none, some}
 use native.Mathlib.Omega.{arith}
 use lib.Dec.{eqb}
 use lib.ListN.{length}
-use borrow.Author.Tests.{eq-eqb, ne-eqb, eqb-false, ltb-false}
-use Rattle.choice.specs.Pick.{pick, not}
-use Rattle.choice.specs.Rules.{Rule, _⇒_, firstBroken}
+use borrow.Author.Tests.{eqb-false, ltb-false}
+use Rattle.choice.specs.Pick.{pick}
+use Rattle.choice.specs.Rules.{firstBroken}
+use Rattle.choice.proofs.Broken.{broken-append}
 use Rattle.uids.specs.Uids.{isUid}
 use Rattle.strike.specs.Service.{Result, noData, does}
 use Rattle.rules.specs.declared.Core.{Core}
@@ -25,13 +26,13 @@ use Rattle.rules.specs.Records.{noName, sentName, filmsOf, shelved, entriesOf, 
 use Rattle.rules.specs.Commands.{uidAt}
 use Rattle.rules.specs.Effects.{printed, noneFilled, queueRoom}
 use Rattle.rules.specs.Responses.{Reply, reply, filmsQueued}
-use Rattle.rules.specs.Checks.{Plan, says, failed, quietly, printedWith, nothing, targetRules, sessionPrintRules, filmPrintRules, actionPlan, deletePlan, also, planOf}
+use Rattle.rules.specs.Checks.{Plan, says, failed, quietly, printedWith, nothing, targetRules, sessionPrintRules, filmPrintRules, actionPlan, deletePlan, planOf}
 use Rattle.verdicts.specs.declared.Verdict.{Verdict}
 use Rattle.verdicts.specs.Verdicts.{meant, quiet, Decides}
 use Rattle.verdicts.specs.Ready.{Ready}
 use Rattle.verdicts.proofs.Laws.{sent-shown, quiet-meant}
 use Rattle.verdicts.proofs.Plans.{broken-decides, kept-decides, done-decides, none-broken}
-use Rattle.acting.specs.Queuing.{queuing}
+use Rattle.acting.specs.Acting.{otherAction, actionRules, queuing}
 
 -- Room in the queue, where check 10 finds nothing wrong.
 
@@ -82,44 +83,33 @@ module _ (k : Core) (c : List ℕ) (r : Request) (v : Verdict) where
   pub nothing-decides : (name : Name) → v ≡ quiet k name → name ≡ noName → Decides k c r (nothing k) v
   nothing-decides name e unnamed = done-decides k c r (quietly k none) v (quiet k noName) (e ∙ rw unnamed) refl (quiet-meant k k c r noName none refl)
 
--- Checks 6 and 7, and then the plan of the instance.
+-- Check 6, and then check 7.
 
-abbrev otherAction : Action → List Rule
-otherAction a = (not (eqb (a .kind) 1) ⇒ 0x0123) ∷ []
+pub action-number : (k : Core) (c : List ℕ) (a : Action) (n : ℕ) → n ≡ firstBroken (targetRules k c (a .class) (a .instance)) → firstBroken (actionRules k c a) ≡ pick (eqb n 0) (firstBroken (otherAction a)) n
+unfolding targetRules
+action-number k c a n e = broken-append (targetRules k c (a .class) (a .instance)) (otherAction a) refl ∙ rw (← e)
 
-abbrev print : Core → List ℕ → Action → Plan
-print k c a = actionPlan k (named k (uidAt c (a .instance))) (uidAt c (a .instance))
-
-abbrev remove : Core → List ℕ → Target → Plan
-remove k c t = deletePlan k (named k (uidAt c (t .instance))) (uidAt c (t .instance))
+-- Rules on the instance, and then its plan.
 
 module _ (k : Core) (c : List ℕ) (r : Request) (v : Verdict) (n : ℕ) where
-  module _ (a : Action) (e : n ≡ firstBroken (targetRules k c (a .class) (a .instance))) where
+  module _ (a : Action) (e : n ≡ firstBroken (actionRules k c a)) where
     pub acted-refused : (meant k c r v ≡ failed c r n) × (v .core ≡ k) → (n ≡ 0 → ⊥) → Decides k c r (planOf k c noData (Act a)) v
     unfolding planOf targetRules
-    acted-refused f broken = broken-decides c r (targetRules k c (a .class) (a .instance)) (also (otherAction a) (print k c a)) refl n e k v f broken
+    acted-refused f broken = broken-decides c r (actionRules k c a) (actionPlan k (named k (uidAt c (a .instance))) (uidAt c (a .instance))) refl n e k v f broken
 
-    module _ (kept : n ≡ 0) where
-      pub acted-otherwise : (meant k c r v ≡ failed c r 0x0123) × (v .core ≡ k) → (a .kind ≡ 1 → ⊥) → Decides k c r (planOf k c noData (Act a)) v
-      unfolding planOf targetRules
-      acted-otherwise f other =
-          kept-decides c r (targetRules k c (a .class) (a .instance)) (also (otherAction a) (print k c a)) refl n e k v kept
-          (broken-decides c r (otherAction a) (print k c a) refl 0x0123 (rw (ne-eqb (a .kind) 1 other)) k v f (λ z. omega (arith, z)))
-
-      pub acted-print : a .kind ≡ 1 → (x : Instance) → x ≡ named k (uidAt c (a .instance)) → Decides k c r (actionPlan k x (uidAt c (a .instance))) v → Decides k c r (planOf k c noData (Act a)) v
-      unfolding planOf targetRules
-      acted-print one x named-x d =
-          kept-decides c r (targetRules k c (a .class) (a .instance)) (also (otherAction a) (print k c a)) refl n e k v kept
-          (kept-decides c r (otherAction a) (print k c a) refl 0 (rw (eq-eqb (a .kind) 1 one)) k v refl
-          (subst (λ y. Decides k c r (actionPlan k y (uidAt c (a .instance))) v) named-x d))
+    pub acted-on : n ≡ 0 → (x : Instance) → x ≡ named k (uidAt c (a .instance)) → Decides k c r (actionPlan k x (uidAt c (a .instance))) v → Decides k c r (planOf k c noData (Act a)) v
+    unfolding planOf targetRules
+    acted-on kept x named-x d =
+        kept-decides c r (actionRules k c a) (actionPlan k (named k (uidAt c (a .instance))) (uidAt c (a .instance))) refl n e k v kept
+        (subst (λ y. Decides k c r (actionPlan k y (uidAt c (a .instance))) v) named-x d)
 
   module _ (t : Target) (e : n ≡ firstBroken (targetRules k c (t .class) (t .instance))) where
     pub deleted-refused : (meant k c r v ≡ failed c r n) × (v .core ≡ k) → (n ≡ 0 → ⊥) → Decides k c r (planOf k c noData (Delete t)) v
     unfolding planOf targetRules
-    deleted-refused f broken = broken-decides c r (targetRules k c (t .class) (t .instance)) (remove k c t) refl n e k v f broken
+    deleted-refused f broken = broken-decides c r (targetRules k c (t .class) (t .instance)) (deletePlan k (named k (uidAt c (t .instance))) (uidAt c (t .instance))) refl n e k v f broken
 
-    pub deleted-whom : n ≡ 0 → (x : Instance) → x ≡ named k (uidAt c (t .instance)) → Decides k c r (deletePlan k x (uidAt c (t .instance))) v → Decides k c r (planOf k c noData (Delete t)) v
+    pub deleted-one : n ≡ 0 → (x : Instance) → x ≡ named k (uidAt c (t .instance)) → Decides k c r (deletePlan k x (uidAt c (t .instance))) v → Decides k c r (planOf k c noData (Delete t)) v
     unfolding planOf targetRules
-    deleted-whom kept x named-x d =
-        kept-decides c r (targetRules k c (t .class) (t .instance)) (remove k c t) refl n e k v kept
+    deleted-one kept x named-x d =
+        kept-decides c r (targetRules k c (t .class) (t .instance)) (deletePlan k (named k (uidAt c (t .instance))) (uidAt c (t .instance))) refl n e k v kept
         (subst (λ y. Decides k c r (deletePlan k y (uidAt c (t .instance))) v) named-x d)

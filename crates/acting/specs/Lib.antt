@@ -1,1 +1,1 @@
-pub mod Queuing
+pub mod Acting

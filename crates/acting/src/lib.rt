@@ -11,19 +11,22 @@ use verdicts::NewBoxes;
 use verdicts::Notice;
 use verdicts::Verdict;
 ghost use mathlib.Core.Path.{_≡_};
+ghost use mathlib.Core.Bool.{true};
 ghost use Prim.Native.Nat.{_<_};
 ghost use lib.ListN.{length};
 ghost use Rattle.choice.specs.Pick.{pick};
+ghost use Rattle.choice.specs.Rules.{firstBroken};
 ghost use Rattle.strike.specs.Service.{noData};
 ghost use Rattle.rules.specs.declared.Operation.the-variants.{Act, Delete};
 ghost use Rattle.rules.specs.Records.{theSession, theFilm, filmsOf};
 ghost use Rattle.rules.specs.Commands.{uidAt};
 ghost use Rattle.rules.specs.Checks.{actionPlan, deletePlan, planOf};
+ghost use Rattle.rules.specs.Sound.{coreSound};
 ghost use Rattle.instances.specs.Meant.{instanceMeant};
 ghost use Rattle.instances.specs.There.{There};
 ghost use Rattle.verdicts.specs.Verdicts.{Decides};
 ghost use Rattle.verdicts.specs.Ready.{Ready, UidIn, UidsIn};
-ghost use Rattle.acting.specs.Queuing.{queuing};
+ghost use Rattle.acting.specs.Acting.{actionRules, queuing};
 
 // Check 11: the warning, where a film has no filled box.
 fn warned(empty: bool, warning: u16) -> u16
@@ -116,6 +119,24 @@ fn removed(k: Core, c: &[u8], request: Request, instance: Part, whom: Whom) -> V
     }
 }
 
+// Checks 6 and 7: the number of the first rule broken, 0 where none is.
+fn action_broken(k: Core, c: &[u8], action: Action) -> u16
+    requires { ⌜ (coreSound k ≡ true) × UidsIn (now c) (Act action) ⌝ }
+    ensures { λ r. ⌜ r ≡ firstBroken (actionRules k (now (c .entry)) action) ⌝ }
+{
+    let class = action.class;
+    let instance = action.instance;
+    let kind = action.kind;
+    let target = instances::target_broken(k, c, class, instance);
+    if target != 0 {
+        return target;
+    }
+    if kind != 1 {
+        return 0x0123;
+    }
+    0
+}
+
 // N-ACTION.
 pub fn acted(k: Core, c: &[u8], message: u16, action: Action) -> Verdict
     requires { ⌜ Ready k × UidsIn (now c) (Act action) ⌝ }
@@ -125,16 +146,11 @@ pub fn acted(k: Core, c: &[u8], message: u16, action: Action) -> Verdict
         message,
         operation: Operation::Act(action),
     };
-    let class = action.class;
-    let instance = action.instance;
-    let broken = instances::target_broken(k, c, class, instance);
+    let broken = action_broken(k, c, action);
     if broken != 0 {
         return verdicts::failed(k, c, request, broken);
     }
-    // check 7: Print is the one action
-    if action.kind != 1 {
-        return verdicts::failed(k, c, request, 0x0123);
-    }
+    let instance = action.instance;
     let whom = instances::named(k, instances::uid_at(c, instance));
     printed(k, c, request, instance, whom)
 }

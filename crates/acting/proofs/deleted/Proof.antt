@@ -1,6 +1,6 @@
 use mathlib.Core.Path.{ap, _∙_}
 use Rattle.rules.specs.Records.{named}
-use Rattle.acting.proofs.Laws.{deleted-refused, deleted-whom}
+use Rattle.acting.proofs.Laws.{deleted-refused, deleted-one}
 use borrow.Author.Needs.{needs}
 use Rattle.acting.proofs.deleted.Statement.{statement}
 use Rattle.acting.proofs.deleted.Tie as tie
@@ -13,7 +13,7 @@ returns c =
 returns-2 : tie.Need-returns-2
 returns-2 c =
     let a = c .before .before .before .before .before .before .before .before .args in
-    deleted-whom (a .k) (a .c .now) _ (c .removed .result) _ (a .target) (c .before .before .before .before .target-broken .ensures) (c .before .before .before .if1 .left) _
+    deleted-one (a .k) (a .c .now) _ (c .removed .result) _ (a .target) (c .before .before .before .before .target-broken .ensures) (c .before .before .before .if1 .left) _
     (c .before .named .ensures .0 ∙ ap (named (a .k)) (c .before .before .uid-at .ensures)) (c .removed .ensures)
 
 pub deleted-spec : {M : Type 1} → statement M

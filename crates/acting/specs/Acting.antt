@@ -1,0 +1,30 @@
+-- Checks 6 and 7 of N-ACTION, and the verdict that films were queued.
+use Prim.Native.Nat.{ℕ}
+use mathlib.Core.Bool.{true}
+use mathlib.Core.List.{List, [], _∷_, _++_}
+use lib.Dec.{eqb}
+use Rattle.choice.specs.Pick.{not}
+use Rattle.choice.specs.Rules.{Rule, _⇒_}
+use Rattle.rules.specs.declared.Name.{Name}
+use Rattle.rules.specs.declared.Core.{Core}
+use Rattle.rules.specs.declared.Action.{Action}
+use Rattle.rules.specs.Checks.{targetRules}
+use Rattle.verdicts.specs.declared.Verdict.{Verdict}
+use Rattle.verdicts.specs.Verdicts.{noNewBoxes}
+
+-- check 7: Print, type 1, is the one action
+abbrev pub otherAction : Action → List Rule
+otherAction a = (not (eqb (a .kind) 1) ⇒ 0x0123) ∷ []
+
+abbrev pub actionRules : Core → List ℕ → Action → List Rule
+actionRules k c a = targetRules k c (a .class) (a .instance) ++ otherAction a
+
+abbrev pub queuing : Core → Name → ℕ → ℕ → Verdict
+queuing after name status films = record {
+  done = true;
+  status = status;
+  core = after;
+  instance = name;
+  notice = record { kind = 1; first = films; second = 0; third = 0 };
+  boxes = noNewBoxes;
+}
