@@ -13,25 +13,22 @@ use Rattle.choice.specs.Pick.{pick}
 use Rattle.choice.specs.Rules.{firstBroken}
 use Rattle.choice.proofs.Broken.{broken-append}
 use Rattle.uids.specs.Uids.{isUid}
-use Rattle.strike.specs.Service.{Result, noData, does}
+use Rattle.strike.specs.Service.{Result, does}
 use Rattle.rules.specs.declared.Core.{Core}
 use Rattle.rules.specs.declared.Film.{Film}
 use Rattle.rules.specs.declared.Name.{Name}
 use Rattle.rules.specs.declared.Action.{Action}
-use Rattle.rules.specs.declared.Target.{Target}
-use Rattle.rules.specs.declared.Operation.the-variants.{Act, Delete}
 use Rattle.rules.specs.declared.Request.{Request}
 use Rattle.rules.specs.Lists.{any}
-use Rattle.rules.specs.Records.{noName, sentName, filmsOf, shelved, entriesOf, Instance, named}
-use Rattle.rules.specs.Commands.{uidAt}
+use Rattle.rules.specs.Records.{noName, sentName, filmsOf, shelved, entriesOf, Instance}
 use Rattle.rules.specs.Effects.{printed, noneFilled, queueRoom}
 use Rattle.rules.specs.Responses.{Reply, reply, filmsQueued}
-use Rattle.rules.specs.Checks.{Plan, says, failed, quietly, printedWith, nothing, targetRules, sessionPrintRules, filmPrintRules, actionPlan, deletePlan, planOf}
+use Rattle.rules.specs.Checks.{Plan, says, quietly, printedWith, nothing, targetRules, sessionPrintRules, filmPrintRules}
 use Rattle.verdicts.specs.declared.Verdict.{Verdict}
 use Rattle.verdicts.specs.Verdicts.{meant, quiet, Decides}
 use Rattle.verdicts.specs.Ready.{Ready}
 use Rattle.verdicts.proofs.Laws.{sent-shown, quiet-meant}
-use Rattle.verdicts.proofs.Plans.{broken-decides, kept-decides, done-decides, none-broken}
+use Rattle.verdicts.proofs.Plans.{done-decides, none-broken}
 use Rattle.acting.specs.Acting.{otherAction, actionRules, queuing}
 
 -- Room in the queue, where check 10 finds nothing wrong.
@@ -80,6 +77,10 @@ module _ (k : Core) (c : List ℕ) (r : Request) (v : Verdict) where
         done-decides k c r (quietly left (some uid)) v (quiet left (sentName uid)) (e ∙ rw (left-so, named-so)) refl
         (quiet-meant k left c r (sentName uid) (some uid) (sent-shown (k .numbers) uid h))
 
+  -- what decides the plan of an instance decides that of the same instance
+  pub same-decides : (plan : Instance → Plan) (x y : Instance) → x ≡ y → Decides k c r (plan x) v → Decides k c r (plan y) v
+  same-decides plan x y e d = subst (λ z. Decides k c r (plan z) v) e d
+
   pub nothing-decides : (name : Name) → v ≡ quiet k name → name ≡ noName → Decides k c r (nothing k) v
   nothing-decides name e unnamed = done-decides k c r (quietly k none) v (quiet k noName) (e ∙ rw unnamed) refl (quiet-meant k k c r noName none refl)
 
@@ -88,28 +89,3 @@ module _ (k : Core) (c : List ℕ) (r : Request) (v : Verdict) where
 pub action-number : (k : Core) (c : List ℕ) (a : Action) (n : ℕ) → n ≡ firstBroken (targetRules k c (a .class) (a .instance)) → firstBroken (actionRules k c a) ≡ pick (eqb n 0) (firstBroken (otherAction a)) n
 unfolding targetRules
 action-number k c a n e = broken-append (targetRules k c (a .class) (a .instance)) (otherAction a) refl ∙ rw (← e)
-
--- Rules on the instance, and then its plan.
-
-module _ (k : Core) (c : List ℕ) (r : Request) (v : Verdict) (n : ℕ) where
-  module _ (a : Action) (e : n ≡ firstBroken (actionRules k c a)) where
-    pub acted-refused : (meant k c r v ≡ failed c r n) × (v .core ≡ k) → (n ≡ 0 → ⊥) → Decides k c r (planOf k c noData (Act a)) v
-    unfolding planOf targetRules
-    acted-refused f broken = broken-decides c r (actionRules k c a) (actionPlan k (named k (uidAt c (a .instance))) (uidAt c (a .instance))) refl n e k v f broken
-
-    pub acted-on : n ≡ 0 → (x : Instance) → x ≡ named k (uidAt c (a .instance)) → Decides k c r (actionPlan k x (uidAt c (a .instance))) v → Decides k c r (planOf k c noData (Act a)) v
-    unfolding planOf targetRules
-    acted-on kept x named-x d =
-        kept-decides c r (actionRules k c a) (actionPlan k (named k (uidAt c (a .instance))) (uidAt c (a .instance))) refl n e k v kept
-        (subst (λ y. Decides k c r (actionPlan k y (uidAt c (a .instance))) v) named-x d)
-
-  module _ (t : Target) (e : n ≡ firstBroken (targetRules k c (t .class) (t .instance))) where
-    pub deleted-refused : (meant k c r v ≡ failed c r n) × (v .core ≡ k) → (n ≡ 0 → ⊥) → Decides k c r (planOf k c noData (Delete t)) v
-    unfolding planOf targetRules
-    deleted-refused f broken = broken-decides c r (targetRules k c (t .class) (t .instance)) (deletePlan k (named k (uidAt c (t .instance))) (uidAt c (t .instance))) refl n e k v f broken
-
-    pub deleted-one : n ≡ 0 → (x : Instance) → x ≡ named k (uidAt c (t .instance)) → Decides k c r (deletePlan k x (uidAt c (t .instance))) v → Decides k c r (planOf k c noData (Delete t)) v
-    unfolding planOf targetRules
-    deleted-one kept x named-x d =
-        kept-decides c r (targetRules k c (t .class) (t .instance)) (deletePlan k (named k (uidAt c (t .instance))) (uidAt c (t .instance))) refl n e k v kept
-        (subst (λ y. Decides k c r (deletePlan k y (uidAt c (t .instance))) v) named-x d)

@@ -68,7 +68,8 @@ fn session_printed(k: Core, c: &[u8], request: Request, instance: Part) -> Verdi
     let name = verdicts::name_at(c, instance);
     let status = warned(printing::any_empty(k), 0xB602);
     let shelf = k.shelf;
-    films_queued(after, name, status, shelf.count as u32)
+    let films = shelf.count as u32;
+    films_queued(after, name, status, films)
 }
 
 fn film_printed(k: Core, c: &[u8], request: Request, instance: Part, i: usize) -> Verdict

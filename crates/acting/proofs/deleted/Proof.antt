@@ -1,20 +1,25 @@
-use mathlib.Core.Path.{ap, _∙_}
+use mathlib.Core.Path.{refl, ap, _∙_}
 use Rattle.rules.specs.Records.{named}
-use Rattle.acting.proofs.Laws.{deleted-refused, deleted-one}
+use Rattle.rules.specs.Commands.{uidAt}
+use Rattle.rules.specs.Checks.{targetRules, deletePlan, planOf}
+use Rattle.verdicts.proofs.Plans.{broken-decides, kept-decides}
+use Rattle.acting.proofs.Laws.{same-decides}
 use borrow.Author.Needs.{needs}
 use Rattle.acting.proofs.deleted.Statement.{statement}
 use Rattle.acting.proofs.deleted.Tie as tie
 
 returns : tie.Need-returns
+unfolding planOf targetRules
 returns c =
     let a = c .before .before .before .before .before .before .args in
-    deleted-refused (a .k) (a .c .now) _ (c .failed .result) _ (a .target) (c .before .before .target-broken .ensures) (c .failed .ensures) (c .before .if1 .taken)
+    broken-decides (a .c .now) _ (targetRules (a .k) (a .c .now) (a .target .class) (a .target .instance)) (deletePlan (a .k) (named (a .k) (uidAt (a .c .now) (a .target .instance))) (uidAt (a .c .now) (a .target .instance))) refl _ (c .before .before .target-broken .ensures) (a .k) (c .failed .result) (c .failed .ensures) (c .before .if1 .taken)
 
 returns-2 : tie.Need-returns-2
+unfolding planOf targetRules
 returns-2 c =
     let a = c .before .before .before .before .before .before .before .before .args in
-    deleted-one (a .k) (a .c .now) _ (c .removed .result) _ (a .target) (c .before .before .before .before .target-broken .ensures) (c .before .before .before .if1 .left) _
-    (c .before .named .ensures .0 ∙ ap (named (a .k)) (c .before .before .uid-at .ensures)) (c .removed .ensures)
+    kept-decides (a .c .now) _ (targetRules (a .k) (a .c .now) (a .target .class) (a .target .instance)) (deletePlan (a .k) (named (a .k) (uidAt (a .c .now) (a .target .instance))) (uidAt (a .c .now) (a .target .instance))) refl _ (c .before .before .before .before .target-broken .ensures) (a .k) (c .removed .result) (c .before .before .before .if1 .left)
+    (same-decides (a .k) (a .c .now) _ (c .removed .result) (λ x. deletePlan (a .k) x (uidAt (a .c .now) (a .target .instance))) _ _ (c .before .named .ensures .0 ∙ ap (named (a .k)) (c .before .before .uid-at .ensures)) (c .removed .ensures))
 
 pub deleted-spec : {M : Type 1} → statement M
 deleted-spec =

@@ -1,10 +1,9 @@
-use mathlib.Core.Path.{sym, subst}
+use mathlib.Core.Path.{sym, ap, subst}
 use Rattle.rules.specs.Commands.{uidAt}
 use Rattle.rules.specs.Checks.{actionPlan}
 use Rattle.instances.specs.Meant.{instanceMeant}
 use Rattle.instances.specs.There.{There}
-use Rattle.verdicts.specs.Verdicts.{Decides}
-use Rattle.acting.proofs.Laws.{nothing-decides}
+use Rattle.acting.proofs.Laws.{same-decides, nothing-decides}
 use borrow.Author.Needs.{needs}
 use Rattle.acting.proofs.printed.Statement.{statement}
 use Rattle.acting.proofs.printed.Tie as tie
@@ -18,26 +17,26 @@ returns : tie.Need-returns
 unfolding actionPlan
 returns c =
     let a = c .before .before .before .before .before .args in
-    subst (λ whom. Decides (a .k) (a .c .now) (a .request) (actionPlan (a .k) (instanceMeant whom) (uidAt (a .c .now) (a .instance))) (c .quiet .result)) (sym (c .before .before .enum-told .given .1))
+    same-decides (a .k) (a .c .now) (a .request) (c .quiet .result) (λ x. actionPlan (a .k) x (uidAt (a .c .now) (a .instance))) _ _ (ap instanceMeant (sym (c .before .before .enum-told .given .1)))
     (nothing-decides (a .k) (a .c .now) (a .request) (c .quiet .result) _ (c .quiet .ensures) (c .before .no-name .ensures))
 
 returns-2 : tie.Need-returns-2
 returns-2 c =
     let a = c .before .before .before .before .args in
-    subst (λ whom. Decides (a .k) (a .c .now) (a .request) (actionPlan (a .k) (instanceMeant whom) (uidAt (a .c .now) (a .instance))) (c .session-printed .result)) (sym (c .before .enum-told2 .given .1))
+    same-decides (a .k) (a .c .now) (a .request) (c .session-printed .result) (λ x. actionPlan (a .k) x (uidAt (a .c .now) (a .instance))) _ _ (ap instanceMeant (sym (c .before .enum-told2 .given .1)))
     (c .session-printed .ensures)
 
 returns-3 : tie.Need-returns-3
 returns-3 c =
     let a = c .before .before .before .before .before .args in
-    subst (λ whom. Decides (a .k) (a .c .now) (a .request) (actionPlan (a .k) (instanceMeant whom) (uidAt (a .c .now) (a .instance))) (c .film-printed .result)) (sym (c .before .before .whom .given .1))
+    same-decides (a .k) (a .c .now) (a .request) (c .film-printed .result) (λ x. actionPlan (a .k) x (uidAt (a .c .now) (a .instance))) _ _ (ap instanceMeant (sym (c .before .before .whom .given .1)))
     (c .film-printed .ensures)
 
 returns-4 : tie.Need-returns-4
 unfolding actionPlan
 returns-4 c =
     let a = c .before .before .before .before .before .args in
-    subst (λ whom. Decides (a .k) (a .c .now) (a .request) (actionPlan (a .k) (instanceMeant whom) (uidAt (a .c .now) (a .instance))) (c .quiet2 .result)) (sym (c .before .before .enum-told3 .given .1))
+    same-decides (a .k) (a .c .now) (a .request) (c .quiet2 .result) (λ x. actionPlan (a .k) x (uidAt (a .c .now) (a .instance))) _ _ (ap instanceMeant (sym (c .before .before .enum-told3 .given .1)))
     (nothing-decides (a .k) (a .c .now) (a .request) (c .quiet2 .result) _ (c .quiet2 .ensures) (c .before .no-name2 .ensures))
 
 pub printed-spec : {M : Type 1} → statement M

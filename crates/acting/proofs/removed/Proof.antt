@@ -1,11 +1,10 @@
-use mathlib.Core.Path.{sym, subst}
+use mathlib.Core.Path.{sym, ap, subst}
 use Rattle.rules.specs.Commands.{uidAt}
 use Rattle.rules.specs.Checks.{deletePlan}
 use Rattle.promises.proofs.Tidy.{shelf-few}
 use Rattle.instances.specs.Meant.{instanceMeant}
 use Rattle.instances.specs.There.{There}
-use Rattle.verdicts.specs.Verdicts.{Decides}
-use Rattle.acting.proofs.Laws.{nothing-decides, deleted-decides}
+use Rattle.acting.proofs.Laws.{same-decides, nothing-decides, deleted-decides}
 use borrow.Author.Needs.{needs}
 use Rattle.acting.proofs.removed.Statement.{statement}
 use Rattle.acting.proofs.removed.Tie as tie
@@ -19,28 +18,28 @@ returns : tie.Need-returns
 unfolding deletePlan
 returns c =
     let a = c .before .before .before .before .before .args in
-    subst (λ whom. Decides (a .k) (a .c .now) (a .request) (deletePlan (a .k) (instanceMeant whom) (uidAt (a .c .now) (a .instance))) (c .quiet .result)) (sym (c .before .before .enum-told .given .1))
+    same-decides (a .k) (a .c .now) (a .request) (c .quiet .result) (λ x. deletePlan (a .k) x (uidAt (a .c .now) (a .instance))) _ _ (ap instanceMeant (sym (c .before .before .enum-told .given .1)))
     (nothing-decides (a .k) (a .c .now) (a .request) (c .quiet .result) _ (c .quiet .ensures) (c .before .no-name .ensures))
 
 returns-2 : tie.Need-returns-2
 unfolding deletePlan
 returns-2 c =
     let a = c .before .before .before .before .before .before .args in
-    subst (λ whom. Decides (a .k) (a .c .now) (a .request) (deletePlan (a .k) (instanceMeant whom) (uidAt (a .c .now) (a .instance))) (c .quiet2 .result)) (sym (c .before .before .before .enum-told2 .given .1))
+    same-decides (a .k) (a .c .now) (a .request) (c .quiet2 .result) (λ x. deletePlan (a .k) x (uidAt (a .c .now) (a .instance))) _ _ (ap instanceMeant (sym (c .before .before .before .enum-told2 .given .1)))
     (deleted-decides (a .k) (a .c .now) (a .request) _ (uidAt (a .c .now) (a .instance)) (c .before .before .before .before .before .before .pre .1 .1) _ _ (c .before .name-at .ensures) _ (c .quiet2 .ensures) (c .before .before .session-deleted .ensures))
 
 returns-3 : tie.Need-returns-3
 unfolding deletePlan
 returns-3 c =
     let a = c .before .before .before .before .before .before .before .args in
-    subst (λ whom. Decides (a .k) (a .c .now) (a .request) (deletePlan (a .k) (instanceMeant whom) (uidAt (a .c .now) (a .instance))) (c .quiet3 .result)) (sym (c .before .before .before .before .whom .given .1))
+    same-decides (a .k) (a .c .now) (a .request) (c .quiet3 .result) (λ x. deletePlan (a .k) x (uidAt (a .c .now) (a .instance))) _ _ (ap instanceMeant (sym (c .before .before .before .before .whom .given .1)))
     (deleted-decides (a .k) (a .c .now) (a .request) _ (uidAt (a .c .now) (a .instance)) (c .before .before .before .before .before .before .before .pre .1 .1) _ _ (c .before .name-at2 .ensures) _ (c .quiet3 .ensures) (c .before .before .film-deleted .ensures))
 
 returns-4 : tie.Need-returns-4
 unfolding deletePlan
 returns-4 c =
     let a = c .before .before .before .before .before .args in
-    subst (λ whom. Decides (a .k) (a .c .now) (a .request) (deletePlan (a .k) (instanceMeant whom) (uidAt (a .c .now) (a .instance))) (c .quiet4 .result)) (sym (c .before .before .enum-told3 .given .1))
+    same-decides (a .k) (a .c .now) (a .request) (c .quiet4 .result) (λ x. deletePlan (a .k) x (uidAt (a .c .now) (a .instance))) _ _ (ap instanceMeant (sym (c .before .before .enum-told3 .given .1)))
     (nothing-decides (a .k) (a .c .now) (a .request) (c .quiet4 .result) _ (c .quiet4 .ensures) (c .before .no-name2 .ensures))
 
 pub removed-spec : {M : Type 1} → statement M
