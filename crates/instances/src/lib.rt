@@ -91,7 +91,7 @@ pub fn offers(class: Class, operation: Operation) -> bool
 }
 
 // The first n bytes, or all where there are fewer.
-fn front(s: &[u8], n: usize) -> &[u8]
+pub fn front(s: &[u8], n: usize) -> &[u8]
     ensures { λ r. ⌜ now r ≡ take n (now (s .entry)) ⌝ }
 {
     if n < s.len() {
@@ -385,7 +385,7 @@ fn is_unknown(class: Class) -> bool
     }
 }
 
-fn class_part(operation: Operation) -> Part
+pub fn class_part(operation: Operation) -> Part
     ensures { λ r. ⌜ r ≡ classPart operation ⌝ }
 {
     match operation {

@@ -1,0 +1,3 @@
+-- The laws of a feed: its response, and its records.
+mod Response
+mod Records

@@ -1,0 +1,69 @@
+-- What a feed writes, in the parts that it is written in.
+use Prim.Native.Nat.{ℕ, _+_, _≤_}
+use mathlib.Core.Bool.{Bool, true, false}
+use mathlib.Core.List.{List, [], _++_}
+use mathlib.Core.Option.{Option}
+use Rattle.octets.specs.Octets.{octets, laid}
+use Rattle.writing.specs.Bytes.{written}
+use Rattle.rules.specs.declared.Input.{Input}
+use Rattle.rules.specs.declared.Operation.{Operation}
+use Rattle.rules.specs.declared.Operation.the-variants.{Echo, Create, Set, Act, Delete}
+use Rattle.rules.specs.declared.Request.{Request}
+use Rattle.rules.specs.Bounds.{mostBoxes, noneLeft}
+use Rattle.rules.specs.Layout.{unpack, pack}
+use Rattle.rules.specs.Responses.{Note, noNote, Reply, reply, responseTree}
+use Rattle.rules.specs.Checks.{says, saysUnknown}
+use Rattle.rules.specs.Calls.{Handed}
+use Rattle.rules.specs.Outcomes.{noteBytes}
+use Rattle.verdicts.specs.declared.NewBoxes.{NewBoxes}
+
+-- Only N-ACTION has an action type.
+
+abbrev pub isAction : Operation → Bool
+isAction (Echo r) = false
+isAction (Create r) = false
+isAction (Set r) = false
+isAction (Act r) = true
+isAction (Delete r) = false
+
+abbrev pub kindOf : Operation → ℕ
+kindOf (Echo r) = 0
+kindOf (Create r) = 0
+kindOf (Set r) = 0
+kindOf (Act r) = r .kind
+kindOf (Delete r) = 0
+
+-- the bytes of a response's command set
+abbrev pub commandBytes : List ℕ → Request → Option (List ℕ) → ℕ → List ℕ → List ℕ
+commandBytes c r instance status d = written false (responseTree (says c r instance) status d)
+
+-- the report, from the lengths of command and data set
+unfoldable pub reportOf : ℕ → ℕ → ℕ → Note → List ℕ
+reportOf status command size note = octets 2 status ++ (octets 2 command ++ (octets 2 size ++ noteBytes note))
+
+-- the response to an unknown field, check 1
+abbrev pub unknownReply : ℕ → ℕ → Reply
+unknownReply message field = reply (saysUnknown message field) 0x0211 [] noNote
+
+-- the boxes of one film, with serials of 32 bits
+abbrev pub BoxesFit : NewBoxes → Type 0
+BoxesFit b = (b .count ≤ mostBoxes) × (b .first + b .count ≤ noneLeft)
+
+-- the records' bytes with another input alone
+unfoldable pub inputWritten : Input → List ℕ → List ℕ
+inputWritten i b = laid b 0 (pack (record { core = unpack b .core; input = i }))
+
+-- the lengths that the check of a feed looks at
+abbrev pub feedHanded : ℕ → ℕ → ℕ → ℕ → Handed
+feedHanded message command dataSet report = record {
+  root = [];
+  serial = 0;
+  picture = 0;
+  context = 0;
+  syntax = 0;
+  message = message;
+  command = command;
+  dataSet = dataSet;
+  report = report;
+  entry = 0;
+}

@@ -1,0 +1,286 @@
+// Feeding: what a feed is refused for, the response that it writes, and the records afterwards.
+use responses::put_film_boxes;
+use responses::put_report;
+use responses::put_response;
+use rules::Core;
+use rules::Input;
+use rules::Name;
+use rules::Numbers;
+use rules::Operation;
+use rules::Request;
+use rules::State;
+use verdicts::NewBoxes;
+use verdicts::Notice;
+use verdicts::Verdict;
+ghost use mathlib.Core.Bool.{true};
+ghost use mathlib.Core.Path.{_≡_};
+ghost use Prim.Native.Nat.{_≤_};
+ghost use lib.ListN.{length, take};
+ghost use Rattle.choice.specs.Rules.{firstBroken};
+ghost use Rattle.octets.specs.Octets.{laid};
+ghost use Rattle.strike.specs.Machine.{idle};
+ghost use Rattle.rules.specs.Records.{uidOf};
+ghost use Rattle.rules.specs.Sound.{coreSound};
+ghost use Rattle.rules.specs.Checks.{fieldOf};
+ghost use Rattle.rules.specs.Calls.{messageWrong, feedRules};
+ghost use Rattle.rules.specs.Outcomes.{inputHeld, reportBytes, written};
+ghost use Rattle.responses.specs.Parts.{given, dataShown};
+ghost use Rattle.verdicts.specs.Verdicts.{instanceOf, noteOf, dataSetOf, replyOf};
+ghost use Rattle.verdicts.specs.Ready.{UidsIn};
+ghost use Rattle.feeding.specs.Feeding.{isAction, kindOf, commandBytes, reportOf, unknownReply, BoxesFit, inputWritten, feedHanded};
+
+// The response.
+
+// The first characters of a text, as many as are used: how many there are.
+fn put_text(out: &mut [u8], text: [u8; 64], used: usize) -> usize
+    requires { ⌜ 64 ≤ length (now out) ⌝ }
+    ensures { λ r. ⌜ (now (out .exit) ≡ laid (now (out .entry)) 0 (take used text)) × (r ≡ length (take used text)) × (length text ≡ 64) ⌝ }
+{
+    let uid = instances::front(&text, used);
+    octets::put(out, 0, uid);
+    uid.len()
+}
+
+// The UID of a name, which is empty where there is none: how many characters it has.
+fn put_uid(out: &mut [u8], n: Numbers, name: Name) -> usize
+    requires { ⌜ (64 ≤ length (now out)) × (n .used ≤ 40) ⌝ }
+    ensures { λ r. ⌜ (now (out .exit) ≡ laid (now (out .entry)) 0 (uidOf n name)) × (r ≡ length (uidOf n name)) × (r ≤ 64) × (given (uidOf n name) ≡ instanceOf n name) ⌝ }
+{
+    let serial = name.made;
+    if serial.0 == 0 {
+        let text = name.text;
+        return put_text(out, text, name.used as usize);
+    }
+    let root = n.root;
+    uids::put_made(out, 0, instances::front(&root, n.used as usize), serial.0)
+}
+
+// The created film's data set, no bytes where no film was created: how many bytes it has.
+fn put_data(data_set: &mut [u8], k: Core, boxes: NewBoxes) -> usize
+    requires { ⌜ (8192 ≤ length (now data_set)) × (k .numbers .used ≤ 40) × BoxesFit boxes ⌝ }
+    ensures { λ r. ⌜ (now (data_set .exit) ≡ laid (now (data_set .entry)) 0 (dataSetOf k boxes)) × (r ≡ length (dataSetOf k boxes)) ⌝ }
+{
+    if boxes.count == 0 {
+        return 0;
+    }
+    let opened = k.opened;
+    let numbers = k.numbers;
+    let root = numbers.root;
+    put_film_boxes(
+        data_set,
+        opened.syntax == 2,
+        instances::front(&root, numbers.used as usize),
+        boxes.first,
+        boxes.count as usize,
+    )
+}
+
+fn field_of(operation: Operation) -> u16
+    ensures { λ r. ⌜ r ≡ fieldOf operation ⌝ }
+{
+    match operation {
+        Operation::Echo(_) => 0x0030,
+        Operation::Create(_) => 0x0140,
+        Operation::Set(_) => 0x0120,
+        Operation::Act(_) => 0x0130,
+        Operation::Delete(_) => 0x0150,
+    }
+}
+
+fn is_action(operation: Operation) -> bool
+    ensures { λ r. ⌜ r ≡ isAction operation ⌝ }
+{
+    match operation {
+        Operation::Echo(_) => false,
+        Operation::Create(_) => false,
+        Operation::Set(_) => false,
+        Operation::Act(_) => true,
+        Operation::Delete(_) => false,
+    }
+}
+
+// The action type, 0 where there is none.
+fn kind_of(operation: Operation) -> u16
+    ensures { λ r. ⌜ r ≡ kindOf operation ⌝ }
+{
+    match operation {
+        Operation::Echo(_) => 0,
+        Operation::Create(_) => 0,
+        Operation::Set(_) => 0,
+        Operation::Act(action) => action.kind,
+        Operation::Delete(_) => 0,
+    }
+}
+
+// A response's command set: how many bytes it has.
+fn put_command(
+    command: &mut [u8],
+    c: &[u8],
+    request: Request,
+    with_data: bool,
+    status: u16,
+    instance: &[u8],
+) -> usize
+    requires { ⌜ (256 ≤ length (now command)) × UidsIn (now c) (request .operation) × (length (now instance) ≤ 64) ⌝ }
+    ensures { λ r. ⌜ (now (command .exit) ≡ laid (now (command .entry)) 0 (commandBytes (now (c .entry)) request (given (now (instance .entry))) status (dataShown with_data))) × (r ≡ length (commandBytes (now (c .entry)) request (given (now (instance .entry))) status (dataShown with_data))) ⌝ }
+{
+    let operation = request.operation;
+    put_response(
+        command,
+        instances::uid_at(c, instances::class_part(operation)),
+        field_of(operation),
+        request.message,
+        with_data,
+        status,
+        instance,
+        is_action(operation),
+        kind_of(operation),
+    )
+}
+
+// The report with a note: none, how many films were queued, or a picture.
+fn put_note(report: &mut [u8], status: u16, command: usize, size: usize, notice: Notice)
+    requires { ⌜ 20 ≤ length (now report) ⌝ }
+    ensures { λ _. ⌜ now (report .exit) ≡ laid (now (report .entry)) 0 (reportOf status command size (noteOf notice)) ⌝ }
+{
+    if notice.kind == 1 {
+        put_report(report, status, command, size, 1, notice.first, 0, 0);
+    } else if notice.kind == 2 {
+        put_report(
+            report,
+            status,
+            command,
+            size,
+            2,
+            notice.first,
+            notice.second,
+            notice.third,
+        );
+    } else {
+        put_report(report, status, command, size, 0, 0, 0, 0);
+    }
+}
+
+// The response to a request that came to a verdict.
+pub fn respond(
+    command: &mut [u8],
+    data_set: &mut [u8],
+    report: &mut [u8],
+    k: Core,
+    c: &[u8],
+    request: Request,
+    v: Verdict,
+)
+    requires { ⌜ (256 ≤ length (now command)) × (8192 ≤ length (now data_set)) × (20 ≤ length (now report)) × (coreSound k ≡ true) × UidsIn (now c) (request .operation) × BoxesFit (v .boxes) ⌝ }
+    ensures { λ _. ⌜ (now (command .exit) ≡ laid (now (command .entry)) 0 (replyOf k (now (c .entry)) request v .command)) × (now (data_set .exit) ≡ laid (now (data_set .entry)) 0 (replyOf k (now (c .entry)) request v .dataSet)) × (now (report .exit) ≡ laid (now (report .entry)) 0 (reportBytes (replyOf k (now (c .entry)) request v))) ⌝ }
+{
+    let boxes = v.boxes;
+    let size = put_data(data_set, k, boxes);
+    let mut uid = [0u8; 64];
+    let numbers = k.numbers;
+    let instance = v.instance;
+    let n = put_uid(&mut uid, numbers, instance);
+    let stop = put_command(
+        command,
+        c,
+        request,
+        0 < size,
+        v.status,
+        instances::front(&uid, n),
+    );
+    let notice = v.notice;
+    put_note(report, v.status, stop, size, notice);
+}
+
+// The response to an unknown field: no class, instance or action.
+pub fn respond_unknown(command: &mut [u8], report: &mut [u8], message: u16, field: u16)
+    requires { ⌜ (256 ≤ length (now command)) × (20 ≤ length (now report)) ⌝ }
+    ensures { λ _. ⌜ (now (command .exit) ≡ laid (now (command .entry)) 0 (unknownReply message field .command)) × (now (report .exit) ≡ laid (now (report .entry)) 0 (reportBytes (unknownReply message field))) ⌝ }
+{
+    let stop = put_response(command, b"", field, message, false, 0x0211, b"", false, 0);
+    put_report(report, 0x0211, stop, 0, 0, 0, 0, 0);
+}
+
+// The records afterwards.
+
+// The same core with another input: the core's bytes are what they were.
+pub fn put_input(records: &mut [u8], i: Input)
+    requires { ⌜ 7072 ≤ length (now records) ⌝ }
+    ensures { λ _. ⌜ now (records .exit) ≡ inputWritten i (now (records .entry)) ⌝ }
+{
+    records::put_input(records, 6041, i);
+}
+
+fn no_input() -> Input
+    ensures { λ r. ⌜ r ≡ inputHeld idle ⌝ }
+{
+    Input {
+        phase: 0,
+        used: 0,
+        got: 0,
+        command: [0; 1024],
+    }
+}
+
+// The same core with no message half collected.
+pub fn put_idle(records: &mut [u8])
+    requires { ⌜ 7072 ≤ length (now records) ⌝ }
+    ensures { λ _. ⌜ now (records .exit) ≡ inputWritten (inputHeld idle) (now (records .entry)) ⌝ }
+{
+    put_input(records, no_input());
+}
+
+// Another core with no message half collected.
+pub fn put_core(records: &mut [u8], core: Core)
+    requires { ⌜ 7072 ≤ length (now records) ⌝ }
+    ensures { λ _. ⌜ now (records .exit) ≡ written (record { core = core; input = idle }) (now (records .entry)) ⌝ }
+{
+    let input = no_input();
+    let state = State { core, input };
+    records::put_state(records, 0, state);
+}
+
+// The refusals.
+
+// "the message buffer is out of limits or, while open, of another length"
+pub fn message_wrong(k: Core, room: usize) -> bool
+    ensures { λ r. ⌜ r ≡ messageWrong k room ⌝ }
+{
+    if room < 4096 {
+        return true;
+    }
+    if 16777216 < room {
+        return true;
+    }
+    let opened = k.opened;
+    if opened.live == 0 {
+        return false;
+    }
+    if room == opened.room as usize {
+        return false;
+    }
+    true
+}
+
+// The number that a feed is refused with, by the lengths of the buffers; 0 where it is not.
+pub fn feed_refused(k: Core, message: usize, command: usize, data_set: usize, report: usize) -> u32
+    ensures { λ r. ⌜ r ≡ firstBroken (feedRules k (feedHanded message command data_set report)) ⌝ }
+{
+    if message_wrong(k, message) {
+        return 2;
+    }
+    if command < 256 {
+        return 2;
+    }
+    if data_set < 8192 {
+        return 2;
+    }
+    if report < 20 {
+        return 2;
+    }
+    let opened = k.opened;
+    if opened.live == 0 {
+        return 4;
+    }
+    0
+}
