@@ -1,3 +1,4 @@
--- The laws of a feed: its response, and its records.
+-- The laws of a feed: its response, its records, and each way out of it.
 mod Response
 mod Records
+pub mod Feeds
