@@ -1,0 +1,201 @@
+-- What checks 8 and 9 leave, and what the creation of a session or a film means.
+-- Assumes nothing.
+use Prim.Native.Nat.{ℕ, suc, _+_, _-_, _<_, _≤_}
+use mathlib.Core.Path.{_≡_, refl, sym, ap, subst, _∙_}
+use mathlib.Core.Bool.{Bool, true, false}
+use mathlib.Core.List.{List, [], _∷_, _++_}
+use mathlib.Core.Option.{none, some}
+use native.Mathlib.Omega.{arith}
+use lib.Dec.{eqb}
+use lib.ListN.{length, replicate}
+use lib.Seq.{take-append-seam}
+use borrow.Author.Tests.{eq-eqb, ne-eqb, eqb-true, eqb-false, leb-true, ltb-false}
+use Rattle.choice.specs.Pick.{pick, not}
+use Rattle.choice.specs.Rules.{Rule, _⇒_, firstBroken}
+use Rattle.choice.proofs.Picks.{first-kept, not-true}
+use Rattle.choice.proofs.Broken.{broken-append}
+use Rattle.headers.specs.declared.Part.{Part}
+use Rattle.uids.specs.Uids.{unpadded}
+use Rattle.rules.specs.declared.Film.{Film}
+use Rattle.rules.specs.declared.Numbers.{Numbers}
+use Rattle.rules.specs.declared.Shelf.{Shelf}
+use Rattle.rules.specs.declared.Core.{Core}
+use Rattle.rules.specs.declared.Request.{Request}
+use Rattle.rules.specs.Bounds.{mostFilms, noneLeft}
+use Rattle.rules.specs.Lists.{sum}
+use Rattle.rules.specs.Values.{blank, countsIn}
+use Rattle.rules.specs.Records.{noName, madeName, sentName, uidOf, boxCount, filmsOf, shelved, isLive, withNumbers, withFilms, serialsUsed, boxUids}
+use Rattle.rules.specs.Commands.{size, bytesOf, uidAt}
+use Rattle.rules.specs.Attributes.{Listing, Standing, look, valueOf, attributeRules, sessionStandings, filmCreateStandings, filmWith, layoutFrom, layoutIn}
+use Rattle.rules.specs.Effects.{ownSerials, tooFewSerials, nameFrom, sessionCreated, newFilm, filmSerials, filmCreated}
+use Rattle.rules.specs.Checks.{Class, sessions, films, createRules, newSessionRules, newFilmRules, answered, quietly, nothing, sentUid, newUid, createPlan}
+use Rattle.rules.specs.Sound.{coreSound}
+use Rattle.promises.proofs.Facts.{core-facts, numbers-facts, shelf-facts, filmRoom, between-true}
+use Rattle.promises.proofs.Standings.{kept-fine, mandatory-fine}
+use Rattle.promises.proofs.Layouts.{Grid, counts-grid, layout-few}
+use Rattle.promises.proofs.NewNames.{sendable, sent-short}
+use Rattle.verdicts.specs.declared.NewBoxes.{NewBoxes}
+use Rattle.verdicts.specs.declared.Verdict.{Verdict}
+use Rattle.verdicts.specs.Verdicts.{instanceOf, meant, quiet, Decides}
+use Rattle.verdicts.proofs.Laws.{quiet-meant}
+use Rattle.verdicts.proofs.Plans.{kept-decides, done-decides, none-broken}
+use Rattle.creating.specs.FilmVerdict.{boxesIn, withNewBoxes}
+
+-- Check 8 before check 9.
+
+abbrev pub sessionRows : Core → List ℕ → List Rule
+sessionRows k sent = (isLive (k .session) ⇒ 0x0213) ∷ (tooFewSerials (k .numbers) (ownSerials sent) ⇒ 0x0213) ∷ []
+
+abbrev pub filmRows : Core → List ℕ → Listing → List Rule
+filmRows k sent l = (eqb (length (filmsOf (k .shelf))) mostFilms ⇒ 0x0213) ∷ (tooFewSerials (k .numbers) (filmSerials sent l) ⇒ 0x0213) ∷ []
+
+module _ (standings : List Standing) (others : List Rule) (n : ℕ) (e : n ≡ firstBroken (attributeRules standings)) where
+  pub attributes-broken : (n ≡ 0 → ⊥) → n ≡ firstBroken (attributeRules standings ++ others)
+  attributes-broken h = sym (broken-append (attributeRules standings) others refl ∙ rw (sym e, ne-eqb n 0 h))
+
+  pub attributes-kept : n ≡ 0 → {m : ℕ} → m ≡ firstBroken others → m ≡ firstBroken (attributeRules standings ++ others)
+  attributes-kept h f = f ∙ sym (broken-append (attributeRules standings) others refl ∙ rw (sym e ∙ h))
+
+-- a UID that check 6 passed is short
+pub passed-short : (k : Core) (c : List ℕ) (sent : Part) → firstBroken (createRules k c sent) ≡ 0 → length (sentUid c sent) ≤ 64
+unfolding createRules
+passed-short k c sent e = sent-short k (sentUid c sent) (sendable k c sent (none-broken (createRules k c sent) refl e))
+
+none-at : (c : List ℕ) (p : Part) → size p ≡ 0 → uidAt c p ≡ []
+unfolding uidAt bytesOf unpadded
+none-at c p e = rw e
+
+-- the UID at the place is the one sent, empty where none was
+pub sent-at : (c : List ℕ) (sent : Part) → uidAt c sent ≡ sentUid c sent
+sent-at c sent = at (eqb (size sent) 0) refl
+  where
+    at : (t : Bool) → eqb (size sent) 0 ≡ t → uidAt c sent ≡ pick (not t) (uidAt c sent) []
+    at true e = none-at c sent (eqb-true (size sent) 0 e)
+    at false e = refl
+
+-- Serials and names.
+
+pub serials-known : (k : Core) → coreSound k ≡ true → (1 ≤ k .numbers .serial) × (k .numbers .serial ≤ noneLeft)
+serials-known k e = between-true 1 noneLeft (k .numbers .serial) (numbers-facts (k .numbers) (core-facts k e .numbers) .serial)
+
+pub root-short : (k : Core) → coreSound k ≡ true → k .numbers .used ≤ 40
+root-short k e = between-true 1 40 (k .numbers .used) (numbers-facts (k .numbers) (core-facts k e .numbers) .used) .1
+
+-- where no UID was sent, the next serial is left
+pub serial-left : (n : Numbers) (sent : List ℕ) → n .serial + ownSerials sent ≤ noneLeft → length sent ≡ 0 → n .serial < noneLeft
+serial-left n sent h e = let o : ownSerials sent ≡ 1 = rw (eq-eqb (length sent) 0 e) in omega arith
+
+-- so where the serials of boxes are left too
+pub own-left : (a b c : ℕ) → a + (b + c) ≤ noneLeft → a + b ≤ noneLeft
+own-left a b c h = omega arith
+
+-- the first of the boxes' serials has 32 bits
+pub first-fits : (a b c n : ℕ) → a + (b + c) ≤ noneLeft → 1 ≤ c → n ≡ b → a + n < noneLeft
+first-fits a b c n h g e = omega arith
+
+-- the UID of what is created is the instance shown
+pub new-shown : (k : Core) (sent : List ℕ) → 1 ≤ k .numbers .serial → instanceOf (k .numbers) (nameFrom (k .numbers) sent) ≡ some (newUid k sent)
+new-shown k sent h = shown (eqb (length sent) 0) refl
+  where
+    shown : (t : Bool) → eqb (length sent) 0 ≡ t → instanceOf (k .numbers) (pick t (madeName (k .numbers .serial)) (sentName sent)) ≡ some (uidOf (k .numbers) (pick t (madeName (k .numbers .serial)) (sentName sent)))
+    shown true e = rw (ne-eqb (k .numbers .serial) 0 (λ z. omega arith))
+    shown false e = rw e
+
+-- Sessions.
+
+pub session-kept : (k : Core) (sent : List ℕ) (l : Listing) → firstBroken (newSessionRules k sent l) ≡ 0
+    → (firstBroken (attributeRules (sessionStandings l)) ≡ 0) × (k .numbers .serial + ownSerials sent ≤ noneLeft)
+session-kept k sent l e =
+    let h = none-broken (newSessionRules k sent l) refl e in (
+      first-kept (λ (n : ℕ). n) (attributeRules (sessionStandings l)) 0 (h .0, (h .1 .0, (h .1 .1 .0, tt))),
+      ltb-false noneLeft (k .numbers .serial + ownSerials sent) (h .1 .1 .1 .1 .0),
+    )
+
+-- Films.
+
+sum-some : (more columns : ℕ) → 1 ≤ columns → 1 ≤ sum (replicate (suc more) columns)
+unfolding sum
+sum-some more columns h = omega arith
+
+grid-some : (counts : List ℕ) → Grid counts → 1 ≤ boxCount (layoutFrom counts)
+unfolding boxCount
+grid-some counts g = rw (take-append-seam counts (replicate (6 - length counts) 0)) (subst (λ xs. 1 ≤ sum xs) (sym (g .lines)) (sum-some (g .more) (g .columns) (g .some)))
+
+pub record FilmKept (k : Core) (sent : List ℕ) (l : Listing) : Type 0 where
+  pub room : length (filmsOf (k .shelf)) ≡ 8 → ⊥
+  pub serials : k .numbers .serial + (ownSerials sent + boxCount (layoutIn l)) ≤ noneLeft
+  pub some : 1 ≤ boxCount (layoutIn l)
+
+pub film-kept : (k : Core) (sent : List ℕ) (l : Listing) → firstBroken (newFilmRules k sent l) ≡ 0 → FilmKept k sent l
+unfolding layoutIn filmCreateStandings
+film-kept k sent l e =
+    let h = none-broken (newFilmRules k sent l) refl e in
+    let v = valueOf l 0x2010_0010 in
+    let f = kept-fine (filmCreateStandings k l) (h .0, (h .1 .0, (h .1 .1 .0, tt))) in
+    let a = not-true (eqb (length (countsIn v)) 0) (mandatory-fine blank (λ v. not (eqb (length (countsIn v)) 0)) l (look l 0x2010_0010) (f .0)) in
+    record {
+      room = eqb-false (length (filmsOf (k .shelf))) 8 (h .1 .1 .1 .0);
+      serials = ltb-false noneLeft (k .numbers .serial + filmSerials sent l) (h .1 .1 .1 .1 .0);
+      some = grid-some (countsIn v) (counts-grid v (eqb-false (length (countsIn v)) 0 a));
+    }
+
+-- as many films as the shelf counts
+pub films-counted : (shelf : Shelf) → shelved (filmsOf shelf) ≡ shelf → length (filmsOf shelf) ≡ shelf .count
+unfolding shelved
+films-counted shelf e = ap (λ (s : Shelf). s .count) e
+
+pick-most : (b : Bool) → pick b 8 0 ≤ 8
+pick-most true = omega arith
+pick-most false = omega arith
+
+-- there is room for one more film
+pub room-left : (k : Core) (sent : List ℕ) (l : Listing) → coreSound k ≡ true → shelved (filmsOf (k .shelf)) ≡ k .shelf → FilmKept k sent l → k .shelf .count < 8
+room-left k sent l e h f =
+    let n = films-counted (k .shelf) h in
+    let m = leb-true (k .shelf .count) (filmRoom (k .session)) (shelf-facts (k .numbers) (k .session) (k .shelf) (core-facts k e .shelf) .count) in
+    let p = pick-most (isLive (k .session)) in
+    let d : k .shelf .count ≡ 8 → ⊥ = λ z. f .room (n ∙ z) in
+    omega arith
+
+pub new-few : (k : Core) (sent : List ℕ) (l : Listing) → boxCount (newFilm k sent l .layout) ≤ 36
+unfolding newFilm filmWith
+new-few k sent l = layout-few l
+
+-- a film that is created, with the UIDs of its boxes
+pub film-meant : (k : Core) (sent : List ℕ) (l : Listing) (c : List ℕ) (r : Request) → 1 ≤ k .numbers .serial → 1 ≤ boxCount (layoutIn l)
+    → meant k c r (withNewBoxes (filmCreated k sent l) (newFilm k sent l .name) (boxesIn (newFilm k sent l))) ≡ answered c r (createPlan k films sent l .done)
+unfolding meant createPlan newFilm filmWith boxUids
+film-meant k sent l c r h g = rw (new-shown k sent h, ne-eqb (boxCount (layoutIn l)) 0 (λ z. omega arith))
+
+-- What decides the plans.
+
+module _ (k : Core) (sent : List ℕ) (l : Listing) (c : List ℕ) (r : Request) (v : Verdict) where
+  -- other classes have no N-CREATE: nothing is done
+  pub nothing-decides : v ≡ quiet k noName → Decides k c r (nothing k) v
+  nothing-decides e = done-decides k c r (quietly k none) v (quiet k noName) e refl (quiet-meant k k c r noName none refl)
+
+  pub session-decides : (n : ℕ) → n ≡ firstBroken (newSessionRules k sent l) → n ≡ 0 → 1 ≤ k .numbers .serial → v ≡ quiet (sessionCreated k sent l) (nameFrom (k .numbers) sent) → Decides k c r (createPlan k sessions sent l) v
+  unfolding createPlan
+  session-decides n e z h f =
+      let done = createPlan k sessions sent l .done in
+      kept-decides c r (newSessionRules k sent l) (record { rules = []; done = done }) refl n e k v z
+      (done-decides k c r done v (quiet (sessionCreated k sent l) (nameFrom (k .numbers) sent)) f refl (quiet-meant k (sessionCreated k sent l) c r (nameFrom (k .numbers) sent) (some (newUid k sent)) (new-shown k sent h)))
+
+  module _ (after : Core) (film : Film) (boxes : NewBoxes) (serials : ℕ) (f : film ≡ newFilm k sent l) (s : serials ≡ filmSerials sent l) where
+    verdict-on : v ≡ withNewBoxes after (film .name) boxes → boxes ≡ boxesIn film → after ≡ withFilms (filmsOf (k .shelf) ++ (film ∷ [])) (withNumbers (serialsUsed serials (k .numbers)) k)
+        → v ≡ withNewBoxes (filmCreated k sent l) (newFilm k sent l .name) (boxesIn (newFilm k sent l))
+    unfolding filmCreated
+    verdict-on e b a = e ∙ rw (b, a, s, f)
+
+    pub film-decides : (n : ℕ) → n ≡ firstBroken (newFilmRules k sent l) → n ≡ 0 → 1 ≤ k .numbers .serial → v ≡ withNewBoxes after (film .name) boxes → boxes ≡ boxesIn film → after ≡ withFilms (filmsOf (k .shelf) ++ (film ∷ [])) (withNumbers (serialsUsed serials (k .numbers)) k)
+        → Decides k c r (createPlan k films sent l) v
+    unfolding createPlan
+    film-decides n e z h g b a =
+        let done = createPlan k films sent l .done in
+        kept-decides c r (newFilmRules k sent l) (record { rules = []; done = done }) refl n e k v z
+        (done-decides k c r done v (withNewBoxes (filmCreated k sent l) (newFilm k sent l .name) (boxesIn (newFilm k sent l))) (verdict-on g b a) refl (film-meant k sent l c r h (film-kept k sent l (sym e ∙ z) .some)))
+
+-- the plan by the class and the UID that the command has
+pub plan-decides : (k : Core) (c : List ℕ) (r : Request) (l : Listing) (v : Verdict) (x y : Class) (u w : List ℕ) → x ≡ y → u ≡ w → Decides k c r (createPlan k x u l) v → Decides k c r (createPlan k y w l) v
+plan-decides k c r l v x y u w e f d =
+    subst (λ (z : Class). Decides k c r (createPlan k z w l) v) e (subst (λ (z : List ℕ). Decides k c r (createPlan k x z l) v) f d)

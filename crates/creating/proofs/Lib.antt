@@ -1,0 +1,2 @@
+-- The laws of creating.
+pub mod Laws

@@ -1,0 +1,54 @@
+use Prim.Native.Nat.{_≤_}
+use mathlib.Core.Path.{refl, sym, subst, _∙_}
+use mathlib.Core.List.{[]}
+use native.Mathlib.Omega.{arith}
+use Rattle.rules.specs.declared.Film.{Film}
+use Rattle.rules.specs.Records.{boxCount}
+use Rattle.rules.specs.Attributes.{listingOf}
+use Rattle.rules.specs.Checks.{films, newFilmRules, createPlan}
+use Rattle.verdicts.proofs.Plans.{broken-decides}
+use Rattle.creating.proofs.Laws.{serials-known, root-short, film-kept, room-left, new-few, film-decides}
+use borrow.Author.Needs.{needs}
+use Rattle.creating.proofs.film_decided.Statement.{statement}
+use Rattle.creating.proofs.film_decided.Tie as tie
+
+new-film-broken-requires : tie.Need-new-film-broken-requires
+new-film-broken-requires c κs = (root-short _ (c .before .before .before .pre .0 .0), serials-known _ (c .before .before .before .pre .0 .0) .1, c .before .before .before .pre .0 .1)
+
+returns : tie.Need-returns
+unfolding createPlan
+returns c = let a = c .before .before .before .before .before .before .args in
+    let l = listingOf (a .d .now) (a .explicit) in
+    broken-decides (a .c .now) (a .request) (newFilmRules (a .k) (a .sent .now) l) (record { rules = []; done = createPlan (a .k) films (a .sent .now) l .done }) refl
+    _ (c .before .before .new-film-broken .ensures) (a .k) _ (c .failed .ensures) (c .before .if1 .taken)
+
+film-created-requires : tie.Need-film-created-requires
+film-created-requires c κs = let s = c .before .before .before .before .before .before .before in
+    let l = listingOf (s .args .d .now) (s .args .explicit) in
+    let h = film-kept (s .args .k) (s .args .sent .now) l (sym (c .before .before .before .new-film-broken .ensures) ∙ c .before .before .if1 .left) in
+    (s .pre .0 .1, room-left (s .args .k) (s .args .sent .now) l (s .pre .0 .0) (s .pre .0 .1) h, omega (arith, h .serials, c .film-serials .ensures .0))
+
+boxes-in-requires : tie.Need-boxes-in-requires
+boxes-in-requires c κs = let a = c .before .before .before .before .before .before .before .before .before .args in
+    subst (λ (f : Film). boxCount (f .layout) ≤ 36) (sym (c .before .before .before .new-film .ensures)) (new-few (a .k) (a .sent .now) (listingOf (a .d .now) (a .explicit)))
+
+returns-2 : tie.Need-returns-2
+returns-2 c = let s = c .before .before .before .before .before .before .before .before .before .before .before in
+    let a = s .args in
+    film-decides (a .k) (a .sent .now) (listingOf (a .d .now) (a .explicit)) (a .c .now) (a .request) _
+    _ _ _ _ (c .before .before .before .before .before .new-film .ensures) (c .before .before .before .before .film-serials .ensures .0)
+    _ (c .before .before .before .before .before .before .before .new-film-broken .ensures) (c .before .before .before .before .before .before .if1 .left) (serials-known (a .k) (s .pre .0 .0) .0) (c .with-new-boxes .ensures) (c .before .boxes-in .ensures) (c .before .before .before .film-created .ensures)
+
+pub film-decided-spec : {M : Type 1} → statement M
+film-decided-spec =
+    tie.close
+    (tie.spec
+    new-film-broken-requires
+    (λ c κs. search needs)
+    returns
+    (λ c κs. search needs)
+    (λ c κs. search needs)
+    film-created-requires
+    boxes-in-requires
+    (λ c κs. search needs)
+    returns-2)
