@@ -135,6 +135,9 @@ boxes-few k i e h =
     let film = every-at (filmSound (k .numbers)) (filmsOf (k .shelf)) i noFilm (shelf .films) h in
     box-count (filmAt k i .layout) (film-facts (k .numbers) (filmAt k i) film .layout) .1
 
+pub pictures-few : (k : Core) → coreSound k ≡ true → k .numbers .picture ≤ noneLeft
+pictures-few k e = between-true 1 noneLeft (k .numbers .picture) (numbers-facts (k .numbers) (core-facts k e .numbers) .picture) .1
+
 module _ (k : Core) (i : ℕ) (l : Listing) (sound : coreSound k ≡ true) (there : i < length (filmsOf (k .shelf))) (kept : firstBroken (boxRules k i l) ≡ 0) where
   both-kept : (firstBroken (attributeRules (boxStandings (boxCount (filmAt k i .layout)) l)) ≡ 0) × (both (isFill (imageIn l)) (noPictureLeft (k .numbers)) ≡ false)
   both-kept =
@@ -153,7 +156,7 @@ module _ (k : Core) (i : ℕ) (l : Listing) (sound : coreSound k ≡ true) (ther
 
   pub picture-left : PictureLeft k l
   picture-left fill =
-      let most = between-true 1 noneLeft (k .numbers .picture) (numbers-facts (k .numbers) (core-facts k sound .numbers) .picture) .1 in
+      let most = pictures-few k sound in
       let left = both-second (isFill (imageIn l)) (noPictureLeft (k .numbers)) (both-kept .1) fill in
       below (k .numbers .picture) most (λ e. clash left (eq-eqb (k .numbers .picture) noneLeft e))
     where

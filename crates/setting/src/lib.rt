@@ -149,14 +149,10 @@ fn box_set(k: Core, d: &[u8], explicit: bool, i: usize, j: usize) -> Core
     let places = film.boxes;
     let old = box_at(places, j);
     let numbers = k.numbers;
+    let after = shelves::picture_used(numbers);
     if boxes::is_fill(boxes::image_in(d, explicit)) {
         let full = boxes::box_with(numbers.picture as u32, d, explicit, old);
-        return with_film(
-            k,
-            i,
-            with_box(film, j, full),
-            shelves::picture_used(numbers),
-        );
+        return with_film(k, i, with_box(film, j, full), after);
     }
     let other = boxes::box_with(0, d, explicit, old);
     with_film(k, i, with_box(film, j, other), numbers)
