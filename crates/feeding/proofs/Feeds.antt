@@ -36,7 +36,7 @@ use Rattle.collecting.proofs.Meant.{collected-meant, fragment-in, sound-filled}
 use Rattle.promises.proofs.ListLaws.{all-true}
 use Rattle.promises.proofs.Kept.{sound-parts}
 use Rattle.promises.proofs.Packed.{state-laws}
-use Rattle.feeding.specs.Feeding.{inputWritten}
+use Rattle.feeding.specs.Feeding.{inputWritten, settled}
 
 -- Lines 1 and 2, for the records themselves.
 
@@ -220,3 +220,10 @@ module _ (l : Lent) (fragment : List ℕ) where
               → record { number = 19; records = b; message = m; command = command; dataSet = dataSet; report = report } ≡ feeds l fragment
           unfolding answered
           feeds-done k e eb = rw (eb, ec, ed, et) (sym (by-result (does k reply) e))
+
+          -- a verdict, done or failed
+          pub feeds-answered : (done : Bool) (k : Core) → decide core (commandHeld (r .input)) d ≡ pick done (does k reply) (fails reply) → b ≡ settled done k (l .records)
+              → record { number = 19; records = b; message = m; command = command; dataSet = dataSet; report = report } ≡ feeds l fragment
+          unfolding settled
+          feeds-answered true k e eb = feeds-done k e eb
+          feeds-answered false k e eb = feeds-failed e eb

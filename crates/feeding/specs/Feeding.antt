@@ -3,8 +3,11 @@ use Prim.Native.Nat.{ℕ, _+_, _≤_}
 use mathlib.Core.Bool.{Bool, true, false}
 use mathlib.Core.List.{List, [], _++_}
 use mathlib.Core.Option.{Option}
+use Rattle.choice.specs.Pick.{pick}
 use Rattle.octets.specs.Octets.{octets, laid}
 use Rattle.writing.specs.Bytes.{written}
+use Rattle.strike.specs.Machine.{idle}
+use Rattle.rules.specs.declared.Core.{Core}
 use Rattle.rules.specs.declared.Input.{Input}
 use Rattle.rules.specs.declared.Operation.{Operation}
 use Rattle.rules.specs.declared.Operation.the-variants.{Echo, Create, Set, Act, Delete}
@@ -14,7 +17,8 @@ use Rattle.rules.specs.Layout.{unpack, pack}
 use Rattle.rules.specs.Responses.{Note, noNote, Reply, reply, responseTree}
 use Rattle.rules.specs.Checks.{says, saysUnknown}
 use Rattle.rules.specs.Calls.{Handed}
-use Rattle.rules.specs.Outcomes.{noteBytes}
+use Rattle.rules.specs.Outcomes as outcomes
+use Rattle.rules.specs.Outcomes.{inputHeld, noteBytes}
 use Rattle.verdicts.specs.declared.NewBoxes.{NewBoxes}
 
 -- Only N-ACTION has an action type.
@@ -52,6 +56,10 @@ BoxesFit b = (b .count ≤ mostBoxes) × (b .first + b .count ≤ noneLeft)
 -- the records' bytes with another input alone
 unfoldable pub inputWritten : Input → List ℕ → List ℕ
 inputWritten i b = laid b 0 (pack (record { core = unpack b .core; input = i }))
+
+-- the records' bytes after a request: what was done is kept, a failure leaves the core
+unfoldable pub settled : Bool → Core → List ℕ → List ℕ
+settled done k b = pick done (outcomes.written (record { core = k; input = idle }) b) (inputWritten (inputHeld idle) b)
 
 -- the lengths that the check of a feed looks at
 abbrev pub feedHanded : ℕ → ℕ → ℕ → ℕ → Handed

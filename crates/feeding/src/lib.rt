@@ -27,7 +27,7 @@ ghost use Rattle.rules.specs.Outcomes.{inputHeld, reportBytes, written};
 ghost use Rattle.responses.specs.Parts.{given, dataShown};
 ghost use Rattle.verdicts.specs.Verdicts.{instanceOf, noteOf, dataSetOf, replyOf};
 ghost use Rattle.verdicts.specs.Ready.{UidsIn};
-ghost use Rattle.feeding.specs.Feeding.{isAction, kindOf, commandBytes, reportOf, unknownReply, BoxesFit, inputWritten, feedHanded};
+ghost use Rattle.feeding.specs.Feeding.{isAction, kindOf, commandBytes, reportOf, unknownReply, BoxesFit, inputWritten, settled, feedHanded};
 
 // The response.
 
@@ -238,6 +238,19 @@ pub fn put_core(records: &mut [u8], core: Core)
     let input = no_input();
     let state = State { core, input };
     records::put_state(records, 0, state);
+}
+
+// The records after a verdict: what was done is kept, a failure leaves the core.
+pub fn put_settled(records: &mut [u8], v: Verdict)
+    requires { ⌜ 7072 ≤ length (now records) ⌝ }
+    ensures { λ _. ⌜ now (records .exit) ≡ settled (v .done) (v .core) (now (records .entry)) ⌝ }
+{
+    if v.done {
+        let core = v.core;
+        put_core(records, core);
+    } else {
+        put_idle(records);
+    }
 }
 
 // The refusals.
