@@ -150,9 +150,9 @@ fn new_film_broken(k: Core, d: &[u8], explicit: bool, sent: &[u8]) -> u16
     requires { ⌜ (k .numbers .used ≤ 40) × (k .numbers .serial ≤ noneLeft) × (shelved (filmsOf (k .shelf)) ≡ k .shelf) ⌝ }
     ensures { λ r. ⌜ r ≡ firstBroken (newFilmRules k (now (sent .entry)) (listingOf (now (d .entry)) explicit)) ⌝ }
 {
-    let broken = attributes::film_create_broken(k, d, explicit);
-    if broken != 0 {
-        return broken;
+    let status = attributes::film_create_broken(k, d, explicit);
+    if status != 0 {
+        return status;
     }
     let shelf = k.shelf;
     if shelf.count == 8 {
@@ -174,13 +174,15 @@ fn new_film(k: Core, d: &[u8], explicit: bool, sent: &[u8]) -> Film
     let name = shelves::name_from(numbers, sent);
     let layout = attributes::layout_in(d, explicit);
     let boxes = shelves::new_boxes(distinct::box_count(layout) as usize);
-    let first = numbers.serial + own_serials(sent);
+    let own = own_serials(sent);
+    let next = numbers.serial + own;
+    let first = next as u32;
     let film = Film {
         name,
         layout,
         orientation: 0,
         magnification: 2,
-        first: Serial(first as u32),
+        first: Serial(first),
         boxes,
     };
     attributes::film_with(d, explicit, film)

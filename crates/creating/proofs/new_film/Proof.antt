@@ -18,14 +18,14 @@ new-boxes-requires : tie.Need-new-boxes-requires
 new-boxes-requires c κs = let few = layout-few (listingOf (c .before .before .before .before .before .before .args .d .now) (c .before .before .before .before .before .before .args .explicit)) in
     omega (arith, few, c .box-count .ensures .0 ∙ ap boxCount (c .before .layout-in .ensures))
 
-add-first : tie.Need-add-first
-add-first c = let s = c .before .before .before .before .before .before .before .before .before in
+add-next : tie.Need-add-next
+add-next c = let s = c .before .before .before .before .before .before .before .before .before in
     let h = film-kept (s .args .k) (s .args .sent .now) (listingOf (s .args .d .now) (s .args .explicit)) (s .pre .1) in
     let first = first-fits _ _ _ _ (h .serials) (h .some) (c .before .own-serials .ensures .0) in
     search needs
 
-cast-t13 : tie.Need-cast-t13
-cast-t13 c = let s = c .before .before .before .before .before .before .before .before .before in
+cast-first : tie.Need-cast-first
+cast-first c = let s = c .before .before .before .before .before .before .before .before .before in
     let h = film-kept (s .args .k) (s .args .sent .now) (listingOf (s .args .d .now) (s .args .explicit)) (s .pre .1) in
     let first = first-fits _ _ _ _ (h .serials) (h .some) (c .before .own-serials .ensures .0) in
     search needs
@@ -43,7 +43,7 @@ new-film-spec =
     (λ c κs. search needs)
     new-boxes-requires
     (λ c κs. search needs)
-    add-first
-    cast-t13
+    add-next
+    cast-first
     (λ c κs. search needs)
     returns)
