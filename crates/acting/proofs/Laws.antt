@@ -28,7 +28,7 @@ use Rattle.verdicts.specs.declared.Verdict.{Verdict}
 use Rattle.verdicts.specs.Verdicts.{meant, quiet, Decides}
 use Rattle.verdicts.specs.Ready.{Ready}
 use Rattle.verdicts.proofs.Laws.{sent-shown, quiet-meant}
-use Rattle.verdicts.proofs.Plans.{done-decides, none-broken}
+use Rattle.verdicts.proofs.Plans.{no-boxes-fit, done-decides, none-broken}
 use Rattle.acting.specs.Acting.{otherAction, actionRules, queuing}
 
 -- Room in the queue, where check 10 finds nothing wrong.
@@ -66,7 +66,7 @@ module _ (k : Core) (c : List ℕ) (r : Request) (v : Verdict) where
     unfolding meant
     queued-decides warning films status count e printed-so warned-so counted =
         done-decides k c r (printedWith k warning films uid) v (queuing (printed k films) (sentName uid) (pick (any noneFilled films) warning 0) (length films))
-        (e ∙ rw (printed-so, named-so, warned-so, counted)) refl (ap (λ (i : Option (List ℕ)). queued i) (sent-shown (k .numbers) uid h))
+        (e ∙ rw (printed-so, named-so, warned-so, counted)) refl no-boxes-fit (ap (λ (i : Option (List ℕ)). queued i) (sent-shown (k .numbers) uid h))
       where
         queued : Option (List ℕ) → Result Core Reply
         queued i = does (printed k films) (reply (says c r i) (pick (any noneFilled films) warning 0) [] (filmsQueued (length films)))
@@ -74,7 +74,7 @@ module _ (k : Core) (c : List ℕ) (r : Request) (v : Verdict) where
     -- something deleted
     pub deleted-decides : (left : Core) → v ≡ quiet after name → after ≡ left → Decides k c r (record { rules = []; done = quietly left (some uid) }) v
     deleted-decides left e left-so =
-        done-decides k c r (quietly left (some uid)) v (quiet left (sentName uid)) (e ∙ rw (left-so, named-so)) refl
+        done-decides k c r (quietly left (some uid)) v (quiet left (sentName uid)) (e ∙ rw (left-so, named-so)) refl no-boxes-fit
         (quiet-meant k left c r (sentName uid) (some uid) (sent-shown (k .numbers) uid h))
 
   -- what decides the plan of an instance decides that of the same instance
@@ -82,7 +82,7 @@ module _ (k : Core) (c : List ℕ) (r : Request) (v : Verdict) where
   same-decides plan x y e d = subst (λ z. Decides k c r (plan z) v) e d
 
   pub nothing-decides : (name : Name) → v ≡ quiet k name → name ≡ noName → Decides k c r (nothing k) v
-  nothing-decides name e unnamed = done-decides k c r (quietly k none) v (quiet k noName) (e ∙ rw unnamed) refl (quiet-meant k k c r noName none refl)
+  nothing-decides name e unnamed = done-decides k c r (quietly k none) v (quiet k noName) (e ∙ rw unnamed) refl no-boxes-fit (quiet-meant k k c r noName none refl)
 
 -- Check 6, and then check 7.
 

@@ -36,9 +36,9 @@ use Rattle.promises.proofs.Layouts.{Grid, counts-grid, layout-few}
 use Rattle.promises.proofs.NewNames.{sendable, sent-short}
 use Rattle.verdicts.specs.declared.NewBoxes.{NewBoxes}
 use Rattle.verdicts.specs.declared.Verdict.{Verdict}
-use Rattle.verdicts.specs.Verdicts.{instanceOf, meant, quiet, Decides}
+use Rattle.verdicts.specs.Verdicts.{instanceOf, meant, quiet, BoxesFit, Decides}
 use Rattle.verdicts.proofs.Laws.{quiet-meant}
-use Rattle.verdicts.proofs.Plans.{kept-decides, done-decides, none-broken}
+use Rattle.verdicts.proofs.Plans.{no-boxes-fit, kept-decides, done-decides, none-broken}
 use Rattle.creating.specs.FilmVerdict.{boxesIn, withNewBoxes}
 
 -- Check 8 before check 9.
@@ -161,6 +161,10 @@ pub new-few : (k : Core) (sent : List ℕ) (l : Listing) → boxCount (newFilm k
 unfolding newFilm filmWith
 new-few k sent l = layout-few l
 
+pub new-boxes-fit : (k : Core) (sent : List ℕ) (l : Listing) → firstBroken (newFilmRules k sent l) ≡ 0 → BoxesFit (boxesIn (newFilm k sent l))
+unfolding newFilm filmWith
+new-boxes-fit k sent l e = (layout-few l, omega (arith, film-kept k sent l e .serials))
+
 -- a film that is created, with the UIDs of its boxes
 pub film-meant : (k : Core) (sent : List ℕ) (l : Listing) (c : List ℕ) (r : Request) → 1 ≤ k .numbers .serial → 1 ≤ boxCount (layoutIn l)
     → meant k c r (withNewBoxes (filmCreated k sent l) (newFilm k sent l .name) (boxesIn (newFilm k sent l))) ≡ answered c r (createPlan k films sent l .done)
@@ -172,14 +176,14 @@ film-meant k sent l c r h g = rw (new-shown k sent h, ne-eqb (boxCount (layoutIn
 module _ (k : Core) (sent : List ℕ) (l : Listing) (c : List ℕ) (r : Request) (v : Verdict) where
   -- other classes have no N-CREATE: nothing is done
   pub nothing-decides : v ≡ quiet k noName → Decides k c r (nothing k) v
-  nothing-decides e = done-decides k c r (quietly k none) v (quiet k noName) e refl (quiet-meant k k c r noName none refl)
+  nothing-decides e = done-decides k c r (quietly k none) v (quiet k noName) e refl no-boxes-fit (quiet-meant k k c r noName none refl)
 
   pub session-decides : (n : ℕ) → n ≡ firstBroken (newSessionRules k sent l) → n ≡ 0 → 1 ≤ k .numbers .serial → v ≡ quiet (sessionCreated k sent l) (nameFrom (k .numbers) sent) → Decides k c r (createPlan k sessions sent l) v
   unfolding createPlan
   session-decides n e z h f =
       let done = createPlan k sessions sent l .done in
       kept-decides c r (newSessionRules k sent l) (record { rules = []; done = done }) refl n e k v z
-      (done-decides k c r done v (quiet (sessionCreated k sent l) (nameFrom (k .numbers) sent)) f refl (quiet-meant k (sessionCreated k sent l) c r (nameFrom (k .numbers) sent) (some (newUid k sent)) (new-shown k sent h)))
+      (done-decides k c r done v (quiet (sessionCreated k sent l) (nameFrom (k .numbers) sent)) f refl no-boxes-fit (quiet-meant k (sessionCreated k sent l) c r (nameFrom (k .numbers) sent) (some (newUid k sent)) (new-shown k sent h)))
 
   module _ (after : Core) (film : Film) (boxes : NewBoxes) (serials : ℕ) (f : film ≡ newFilm k sent l) (s : serials ≡ filmSerials sent l) where
     verdict-on : v ≡ withNewBoxes after (film .name) boxes → boxes ≡ boxesIn film → after ≡ withFilms (filmsOf (k .shelf) ++ (film ∷ [])) (withNumbers (serialsUsed serials (k .numbers)) k)
@@ -193,7 +197,7 @@ module _ (k : Core) (sent : List ℕ) (l : Listing) (c : List ℕ) (r : Request)
     film-decides n e z h g b a =
         let done = createPlan k films sent l .done in
         kept-decides c r (newFilmRules k sent l) (record { rules = []; done = done }) refl n e k v z
-        (done-decides k c r done v (withNewBoxes (filmCreated k sent l) (newFilm k sent l .name) (boxesIn (newFilm k sent l))) (verdict-on g b a) refl (film-meant k sent l c r h (film-kept k sent l (sym e ∙ z) .some)))
+        (done-decides k c r done v (withNewBoxes (filmCreated k sent l) (newFilm k sent l .name) (boxesIn (newFilm k sent l))) (verdict-on g b a) refl (new-boxes-fit k sent l (sym e ∙ z)) (film-meant k sent l c r h (film-kept k sent l (sym e ∙ z) .some)))
 
 -- the plan by the class and the UID that the command has
 pub plan-decides : (k : Core) (c : List ℕ) (r : Request) (l : Listing) (v : Verdict) (x y : Class) (u w : List ℕ) → x ≡ y → u ≡ w → Decides k c r (createPlan k x u l) v → Decides k c r (createPlan k y w l) v

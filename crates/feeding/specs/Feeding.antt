@@ -1,5 +1,5 @@
 -- What a feed writes, in the parts that it is written in.
-use Prim.Native.Nat.{ℕ, _+_, _≤_}
+use Prim.Native.Nat.{ℕ, _+_}
 use mathlib.Core.Bool.{Bool, true, false}
 use mathlib.Core.List.{List, [], _++_}
 use mathlib.Core.Option.{Option}
@@ -12,14 +12,12 @@ use Rattle.rules.specs.declared.Input.{Input}
 use Rattle.rules.specs.declared.Operation.{Operation}
 use Rattle.rules.specs.declared.Operation.the-variants.{Echo, Create, Set, Act, Delete}
 use Rattle.rules.specs.declared.Request.{Request}
-use Rattle.rules.specs.Bounds.{mostBoxes, noneLeft}
 use Rattle.rules.specs.Layout.{unpack, pack}
 use Rattle.rules.specs.Responses.{Note, noNote, Reply, reply, responseTree}
 use Rattle.rules.specs.Checks.{says, saysUnknown}
 use Rattle.rules.specs.Calls.{Handed}
 use Rattle.rules.specs.Outcomes as outcomes
 use Rattle.rules.specs.Outcomes.{inputHeld, noteBytes}
-use Rattle.verdicts.specs.declared.NewBoxes.{NewBoxes}
 
 -- Only N-ACTION has an action type.
 
@@ -48,10 +46,6 @@ reportOf status command size note = octets 2 status ++ (octets 2 command ++ (oct
 -- the response to an unknown field, check 1
 abbrev pub unknownReply : ℕ → ℕ → Reply
 unknownReply message field = reply (saysUnknown message field) 0x0211 [] noNote
-
--- the boxes of one film, with serials of 32 bits
-abbrev pub BoxesFit : NewBoxes → Type 0
-BoxesFit b = (b .count ≤ mostBoxes) × (b .first + b .count ≤ noneLeft)
 
 -- the records' bytes with another input alone
 unfoldable pub inputWritten : Input → List ℕ → List ℕ

@@ -25,9 +25,9 @@ ghost use Rattle.rules.specs.Checks.{fieldOf};
 ghost use Rattle.rules.specs.Calls.{messageWrong, feedRules};
 ghost use Rattle.rules.specs.Outcomes.{inputHeld, reportBytes, written};
 ghost use Rattle.responses.specs.Parts.{given, dataShown};
-ghost use Rattle.verdicts.specs.Verdicts.{instanceOf, noteOf, dataSetOf, replyOf};
+ghost use Rattle.verdicts.specs.Verdicts.{instanceOf, noteOf, dataSetOf, replyOf, BoxesFit};
 ghost use Rattle.verdicts.specs.Ready.{UidsIn};
-ghost use Rattle.feeding.specs.Feeding.{isAction, kindOf, commandBytes, reportOf, unknownReply, BoxesFit, inputWritten, settled, feedHanded};
+ghost use Rattle.feeding.specs.Feeding.{isAction, kindOf, commandBytes, reportOf, unknownReply, inputWritten, settled, feedHanded};
 
 // The response.
 

@@ -186,10 +186,10 @@ note-fills k image at e f = rw (e, f)
 -- Verdicts.
 
 pub quiet-stores : (k after : Core) (name : Name) (v : Verdict) (core : Core) → v ≡ quiet after name → after ≡ core → Stores k name v (λ uid. quietly core (some uid))
-quiet-stores k after name v core e f = (ap (λ x. x .done) e, λ c uid r i. ap (meant k c r) (e ∙ ap (λ x. quiet x name) f) ∙ quiet-meant k core c r name (some uid) i)
+quiet-stores k after name v core e f = (ap (λ x. x .done) e, λ c uid r i. ap (meant k c r) (e ∙ ap (λ x. quiet x name) f) ∙ quiet-meant k core c r name (some uid) i, ap (λ x. x .boxes) e)
 
 pub nobody-stores : (k : Core) (name unnamed : Name) (v : Verdict) → v ≡ quiet k unnamed → unnamed ≡ noName → Stores k name v (λ uid. quietly k none)
-nobody-stores k name unnamed v e f = (ap (λ x. x .done) e, λ c uid r i. ap (meant k c r) (e ∙ ap (quiet k) f) ∙ quiet-meant k k c r noName none refl)
+nobody-stores k name unnamed v e f = (ap (λ x. x .done) e, λ c uid r i. ap (meant k c r) (e ∙ ap (quiet k) f) ∙ quiet-meant k k c r noName none refl, ap (λ x. x .boxes) e)
 
 pub set-meant : (k after : Core) (c uid : List ℕ) (r : Request) (name : Name) (notice : Notice) (note : Note) → instanceOf (k .numbers) name ≡ some uid → noteOf notice ≡ note
     → meant k c r (record { done = true; status = 0; core = after; instance = name; notice = notice; boxes = noNewBoxes })

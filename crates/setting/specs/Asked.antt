@@ -16,7 +16,7 @@ use Rattle.rules.specs.Checks.{Done, setPlan, answered}
 use Rattle.instances.specs.declared.Whom.{Whom}
 use Rattle.instances.specs.Meant.{instanceMeant}
 use Rattle.verdicts.specs.declared.Verdict.{Verdict}
-use Rattle.verdicts.specs.Verdicts.{instanceOf, meant}
+use Rattle.verdicts.specs.Verdicts.{instanceOf, meant, noNewBoxes}
 
 abbrev pub asked : ℕ → Target → Request
 asked message target = record { message = message; operation = Set target }
@@ -31,4 +31,4 @@ PictureLeft k l = isFill (imageIn l) ≡ true → k .numbers .picture < noneLeft
 
 -- a verdict that is done, and means what is done to the instance of this name
 abbrev pub Stores : Core → Name → Verdict → (List ℕ → Done) → Type 0
-Stores k name v done = (v .done ≡ true) × ((c uid : List ℕ) (r : Request) → instanceOf (k .numbers) name ≡ some uid → meant k c r v ≡ answered c r (done uid))
+Stores k name v done = (v .done ≡ true) × ((c uid : List ℕ) (r : Request) → instanceOf (k .numbers) name ≡ some uid → meant k c r v ≡ answered c r (done uid)) × (v .boxes ≡ noNewBoxes)

@@ -25,7 +25,7 @@ ghost use Rattle.rules.specs.Effects.{sessionSet, filmAt, withFilm, filmSet, wi
 ghost use Rattle.rules.specs.Checks.{boxRules, imageNote, setPlan, planOf};
 ghost use Rattle.instances.specs.Meant.{instanceMeant};
 ghost use Rattle.instances.specs.There.{There};
-ghost use Rattle.verdicts.specs.Verdicts.{noteOf, meant, decidedBy};
+ghost use Rattle.verdicts.specs.Verdicts.{noteOf, Decides};
 ghost use Rattle.verdicts.specs.Ready.{Ready, UidsIn};
 ghost use Rattle.setting.specs.Asked.{asked, rulesFor, PictureLeft, Stores};
 
@@ -229,7 +229,7 @@ fn stored(k: Core, d: &[u8], explicit: bool, whom: Whom, name: Name) -> Verdict
 // "A set stores nothing before its last value is tested."
 pub fn set(k: Core, c: &[u8], d: &[u8], message: u16, target: Target) -> Verdict
     requires { ⌜ Ready k × UidsIn (now c) (Set target) × (length (now d) ≤ 16777216) ⌝ }
-    ensures { λ r. ⌜ (meant k (now (c .entry)) (asked message target) r ≡ decidedBy (now (c .entry)) (asked message target) (planOf k (now (c .entry)) (whole (now (d .entry))) (Set target))) × (r .done ≡ false → r .core ≡ k) ⌝ }
+    ensures { λ r. ⌜ Decides k (now (c .entry)) (asked message target) (planOf k (now (c .entry)) (whole (now (d .entry))) (Set target)) r ⌝ }
 {
     let class = target.class;
     let instance = target.instance;

@@ -1,9 +1,10 @@
 -- Plans with rules before their own: a broken one fails, and where none is broken the plan decides.
 -- Assumes nothing.
 use Prim.Native.Nat.{ℕ}
-use mathlib.Core.Path.{_≡_, refl, sym, ap, _∙_}
+use mathlib.Core.Path.{_≡_, refl, sym, ap, _∙_, subst⁻¹}
 use mathlib.Core.Bool.{true, false}
 use mathlib.Core.List.{List, [], _∷_, _++_}
+use native.Mathlib.Omega.{arith}
 use lib.Dec.{eqb}
 use borrow.Author.Tests.{eq-eqb, ne-eqb}
 use Rattle.choice.specs.Pick.{pick, not}
@@ -13,7 +14,11 @@ use Rattle.rules.specs.declared.Core.{Core}
 use Rattle.rules.specs.declared.Request.{Request}
 use Rattle.rules.specs.Checks.{Done, Plan, failed, answered, also}
 use Rattle.verdicts.specs.declared.Verdict.{Verdict}
-use Rattle.verdicts.specs.Verdicts.{meant, decidedBy, Decides}
+use Rattle.verdicts.specs.Verdicts.{noNewBoxes, meant, decidedBy, BoxesFit, Decides}
+
+-- where no film was created
+pub no-boxes-fit : BoxesFit noNewBoxes
+no-boxes-fit = (omega arith, omega arith)
 
 first-append : {A : Type 0} (refused : ℕ → A) (rules others : List Rule) (kept : A) → numbered rules ≡ true
     → firstOr refused (rules ++ others) kept ≡ pick (eqb (firstBroken rules) 0) (firstOr refused others kept) (refused (firstBroken rules))
@@ -35,16 +40,17 @@ module _ (c : List ℕ) (r : Request) (rules : List Rule) (plan : Plan) (h : num
   plan-kept kept = by-number ∙ rw (eq-eqb n 0 kept)
 
   -- so a failure decides, or else what decides the plan
-  pub broken-decides : (k : Core) (v : Verdict) → (meant k c r v ≡ failed c r n) × (v .core ≡ k) → (n ≡ 0 → ⊥) → Decides k c r (also rules plan) v
-  broken-decides k v f broken = (f .0 ∙ sym (plan-broken broken), λ g. f .1)
+  pub broken-decides : (k : Core) (v : Verdict) → (meant k c r v ≡ failed c r n) × (v .core ≡ k) × (v .boxes ≡ noNewBoxes) → (n ≡ 0 → ⊥) → Decides k c r (also rules plan) v
+  broken-decides k v f broken = (f .0 ∙ sym (plan-broken broken), λ g. f .1, subst⁻¹ BoxesFit (f .2) no-boxes-fit)
 
   pub kept-decides : (k : Core) (v : Verdict) → n ≡ 0 → Decides k c r plan v → Decides k c r (also rules plan) v
-  kept-decides k v kept d = (d .0 ∙ sym (plan-kept kept), d .1)
+  kept-decides k v kept d = (d .0 ∙ sym (plan-kept kept), d .1, d .2)
 
 -- a verdict that is done decides a plan without rules
-pub done-decides : (k : Core) (c : List ℕ) (r : Request) (done : Done) (v w : Verdict) → v ≡ w → w .done ≡ true → meant k c r w ≡ answered c r done → Decides k c r (record { rules = []; done = done }) v
+pub done-decides : (k : Core) (c : List ℕ) (r : Request) (done : Done) (v w : Verdict) → v ≡ w → w .done ≡ true → BoxesFit (w .boxes) → meant k c r w ≡ answered c r done → Decides k c r (record { rules = []; done = done }) v
 unfolding decidedBy
-done-decides k c r done v w e d m = (ap (meant k c r) e ∙ m, λ f. absurd (clash f (ap (λ x. x .done) e ∙ d)))
+done-decides k c r done v w e d b m =
+    (ap (meant k c r) e ∙ m, λ f. absurd (clash f (ap (λ x. x .done) e ∙ d)), subst⁻¹ (λ (x : Verdict). BoxesFit (x .boxes)) e b)
 
 -- where no rule is broken, each is kept
 pub none-broken : (rules : List Rule) → numbered rules ≡ true → firstBroken rules ≡ 0 → Kept rules

@@ -1,5 +1,5 @@
 -- What a request comes to, as code hands it on, and the result of the book that it means.
-use Prim.Native.Nat.{ℕ}
+use Prim.Native.Nat.{ℕ, _+_, _≤_}
 use mathlib.Core.Path.{_≡_}
 use mathlib.Core.Bool.{true, false}
 use mathlib.Core.List.{List, [], map}
@@ -17,6 +17,7 @@ use Rattle.rules.specs.declared.Core.{Core}
 use Rattle.rules.specs.declared.Operation.{Operation}
 use Rattle.rules.specs.declared.Operation.the-variants.{Echo, Create, Set, Act, Delete}
 use Rattle.rules.specs.declared.Request.{Request}
+use Rattle.rules.specs.Bounds.{mostBoxes, noneLeft}
 use Rattle.rules.specs.Lists.{from}
 use Rattle.rules.specs.Records.{noName, sentName, rootOf, uidOf, explicitVR}
 use Rattle.rules.specs.Commands.{uidAt}
@@ -61,9 +62,13 @@ quiet k name = record { done = true; status = 0; core = k; instance = name; noti
 unfoldable pub decidedBy : List ℕ → Request → Plan → Result Core Reply
 decidedBy c r plan = firstOr (failed c r) (plan .rules) (answered c r (plan .done))
 
+-- the boxes of one film, with serials of 32 bits
+abbrev pub BoxesFit : NewBoxes → Type 0
+BoxesFit b = (b .count ≤ mostBoxes) × (b .first + b .count ≤ noneLeft)
+
 -- a verdict is what the plan comes to, and a failure changes nothing
 abbrev pub Decides : Core → List ℕ → Request → Plan → Verdict → Type 0
-Decides k c r plan v = (meant k c r v ≡ decidedBy c r plan) × (v .done ≡ false → v .core ≡ k)
+Decides k c r plan v = (meant k c r v ≡ decidedBy c r plan) × (v .done ≡ false → v .core ≡ k) × BoxesFit (v .boxes)
 
 -- the name that a failure shows: "a failed create leaves it out if none was sent .. or it breaks PS3.5; C-ECHO has none"
 unfoldable pub sentOrNone : List ℕ → Part → Name

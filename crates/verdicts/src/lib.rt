@@ -13,7 +13,7 @@ ghost use Rattle.rules.specs.Commands.{uidAt};
 ghost use Rattle.rules.specs.Records.{sentName};
 ghost use Rattle.rules.specs.Checks.{failed};
 ghost use Rattle.commands.specs.Within.{PartIn};
-ghost use Rattle.verdicts.specs.Verdicts.{meant, failing, quiet, sentOrNone, failedName};
+ghost use Rattle.verdicts.specs.Verdicts.{noNewBoxes, meant, failing, quiet, sentOrNone, failedName};
 ghost use Rattle.verdicts.specs.Ready.{UidIn, UidsIn};
 
 // A response's note: none 0, how many films were queued 1, a picture's number with place and length of its pixels 2.
@@ -115,7 +115,7 @@ fn failed_name(c: &[u8], operation: Operation) -> Name
 // A failure with this status: nothing changes.
 pub fn failed(k: Core, c: &[u8], request: Request, status: u16) -> Verdict
     requires { ⌜ UidsIn (now c) (request .operation) ⌝ }
-    ensures { λ r. ⌜ (meant k (now (c .entry)) request r ≡ failed (now (c .entry)) request status) × (r .core ≡ k) ⌝ }
+    ensures { λ r. ⌜ (meant k (now (c .entry)) request r ≡ failed (now (c .entry)) request status) × (r .core ≡ k) × (r .boxes ≡ noNewBoxes) ⌝ }
 {
     let operation = request.operation;
     failing(k, failed_name(c, operation), status)

@@ -23,7 +23,7 @@ returns : tie.Need-returns
 unfolding setPlan
 returns c = let a = c .before .before .before .args in
     let note = imageNote (a .k) (imageIn (listingOf (a .d .now) (a .explicit))) in
-    (refl, λ s uid r e. set-meant (a .k) _ s uid r (a .name) _ note e (c .image-notice .ensures) ∙ ap (λ k. answered s r (record { core = k; status = 0; instance = some uid; dataSet = []; note = note })) (c .before .box-set .ensures))
+    (refl, λ s uid r e. set-meant (a .k) _ s uid r (a .name) _ note e (c .image-notice .ensures) ∙ ap (λ k. answered s r (record { core = k; status = 0; instance = some uid; dataSet = []; note = note })) (c .before .box-set .ensures), refl)
 
 pub box-stored-spec : {M : Type 1} → statement M
 box-stored-spec =
