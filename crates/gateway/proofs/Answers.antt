@@ -14,24 +14,26 @@ use Rattle.gateway.specs.Arguments.{startHanded, openHanded}
 use lib.ListN.{length}
 use borrow.Author.Tests.{eq-eqb, ne-eqb, lt-ltb, le-ltb, lt-leb, le-leb, ltb-false, eqb-true, not-true, not-false}
 use Rattle.choice.specs.Pick.{pick, both, either, not}
+use Rattle.octets.specs.Octets.{laid}
 use Rattle.choice.specs.Rules.{Rule, _⇒_, firstOr, firstBroken, numbered}
 use Rattle.choice.proofs.Picks.{Kept, both-true, either-false, clash}
 use Rattle.choice.proofs.Broken.{first-by-number}
-use Rattle.strike.specs.Service.{Call, start, opening, close, Check, passes, refuses}
+use Rattle.strike.specs.Service.{Call, start, opening, close, aside, Check, passes, refuses}
 use Rattle.strike.specs.Machine.{idle, Records, checked, step}
 use Rattle.rules.specs.declared.Core.{Core}
 use Rattle.rules.specs.declared.State.{State}
-use Rattle.rules.specs.Layout.{recordsSize, stateFormat, unpack}
+use Rattle.fields.specs.Format.{write}
+use Rattle.rules.specs.Layout.{recordsSize, stateFormat, unpack, pack}
 use Rattle.rules.specs.Sound.{sound}
-use Rattle.rules.specs.Calls.{Handed, badContext, badSyntax, startRules, openRules, closeRules, rulesOf, check, started, opened, closed, printing}
-use Rattle.rules.specs.Outcomes.{recordsIn, written, numberOf, recordsRules, Outcome, changed, unchanged, orUnchanged, starts, opens, closes}
+use Rattle.rules.specs.Calls.{Handed, badContext, badSyntax, startRules, openRules, closeRules, takeRules, rulesOf, check, started, opened, closed, taken, printing}
+use Rattle.rules.specs.Outcomes.{recordsIn, written, numberOf, recordsRules, Outcome, changed, unchanged, orUnchanged, starts, opens, closes, coreWritten, Taking, nothingTaken, took, takes}
 
 -- a call that is done leaves no message half collected
 abbrev freshly : Core → List ℕ → Outcome
 freshly k b = record { number = 0; records = written (record { core = k; input = idle }) b }
 
 -- no rule is broken where the number is 0
-none-broken : (rules : List Rule) → numbered rules ≡ true → firstBroken rules ≡ 0 → Kept rules
+pub none-broken : (rules : List Rule) → numbered rules ≡ true → firstBroken rules ≡ 0 → Kept rules
 none-broken [] h e = tt
 none-broken ((true ⇒ n) ∷ rules) h e = absurd (clash (rw e) (both-true (not (eqb n 0)) (numbered rules) h .0))
 none-broken ((false ⇒ n) ∷ rules) h e = (refl, none-broken rules (both-true (not (eqb n 0)) (numbered rules) h .1) e)
@@ -127,6 +129,46 @@ module _ (b : List ℕ) (h : Handed) (s : State) (t : Bool) (read : s ≡ stateF
 
   pub close-done : bool.not t ≡ false → (s .core .opened .live ≡ 0 → ⊥) → freshly (closed (s .core)) b ≡ closes b h
   close-done e f = rw (close-by-number e, ne-eqb (s .core .opened .live) 0 f)
+
+-- Take.
+
+pub take-short : (b e : List ℕ) (h : Handed) → length b < recordsSize → nothingTaken b e 2 ≡ takes b e h
+unfolding takes
+take-short b e h short = sym (records-short (nothingTaken b e) b _ short)
+
+-- an entry taken: the core alone is written anew
+abbrev withTaken : List ℕ → List ℕ → Core × List ℕ → Taking
+withTaken b e t = record { number = 0; records = coreWritten (t .0) b; entry = laid e 0 (t .1) }
+
+module _ (b e : List ℕ) (h : Handed) where
+  split-taking : (r : Records Core) (t : Bool) (n : ℕ) → took b e (checked printing (pick t passes (refuses n)) r (aside h)) ≡ pick t (withTaken b e (taken (r .core) h)) (nothingTaken b e n)
+  unfolding checked
+  split-taking r true n = refl
+  split-taking r false n = refl
+
+  taking-by-number : (r : Records Core) → took b e (step printing r (aside h)) ≡ pick (eqb (firstBroken (takeRules (r .core) h)) 0) (withTaken b e (taken (r .core) h)) (nothingTaken b e (firstBroken (takeRules (r .core) h)))
+  unfolding step check
+  taking-by-number r = rw (first-by-number refuses (takeRules (r .core) h) passes refl) (split-taking r (eqb (firstBroken (takeRules (r .core) h)) 0) (firstBroken (takeRules (r .core) h)))
+
+  module _ (s : State) (t : Bool) (read : s ≡ stateFormat .read b 0) (told : t ≡ sound s) (long : recordsSize ≤ length b) where
+    pub take-unsound : bool.not t ≡ true → nothingTaken b e 1 ≡ takes b e h
+    unfolding takes
+    take-unsound f = unsound b h s t read told long (nothingTaken b e) _ f
+
+    take-by-number : bool.not t ≡ false → takes b e h ≡ pick (eqb (firstBroken (takeRules (s .core) h)) 0) (withTaken b e (taken (s .core) h)) (nothingTaken b e (firstBroken (takeRules (s .core) h)))
+    unfolding takes
+    take-by-number f = rw (← (core-read b h s t read told long)) (records-kept (nothingTaken b e) b _ long (in-order b h s t read told long ∙ not-false t f) ∙ taking-by-number (recordsIn (unpack b) []))
+
+    pub take-refused : bool.not t ≡ false → (n : ℕ) → n ≡ firstBroken (takeRules (s .core) h) → (n ≡ 0 → ⊥) → nothingTaken b e n ≡ takes b e h
+    take-refused f n g d = rw (take-by-number f, ← g, ne-eqb n 0 d)
+
+    core-put : (k : Core) → write stateFormat (record { core = k; input = s .input }) b 0 ≡ coreWritten k b
+    unfolding write coreWritten pack unpack
+    core-put k = rw read
+
+    pub take-done : bool.not t ≡ false → firstBroken (takeRules (s .core) h) ≡ 0 → (k : Core) (o x : List ℕ) → k ≡ taken (s .core) h .0 → o ≡ write stateFormat (record { core = k; input = s .input }) b 0 → x ≡ laid e 0 (taken (s .core) h .1)
+        → record { number = 0; records = o; entry = x } ≡ takes b e h
+    take-done f g k o x ek eo ex = rw (take-by-number f, g, eo, core-put k, ek, ex)
 
 pub either-none : (t : Bool) → either t false ≡ t
 either-none true = refl

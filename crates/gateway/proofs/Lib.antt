@@ -1,2 +1,3 @@
--- A call by the number of the first rule that it breaks.
+-- A call by the number of the first rule that it breaks; the oldest entry in bytes.
 mod Answers
+mod Taking

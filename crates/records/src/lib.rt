@@ -412,7 +412,7 @@ fn pictures_at(s: &[u8], p: usize) -> [Picture; 36]
     xs
 }
 
-fn put_pictures(s: &mut [u8], p: usize, a: [Picture; 36])
+pub fn put_pictures(s: &mut [u8], p: usize, a: [Picture; 36])
     requires { ⌜ p + 144 ≤ length (now s) ⌝ }
     ensures { λ _. ⌜ now (s .exit) ≡ write (array 36 pictureFormat) a (now (s .entry)) p ⌝ }
 {
