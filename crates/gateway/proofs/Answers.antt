@@ -12,13 +12,13 @@ use Rattle.rules.specs.Bounds.{leastRoom, mostRoom, rootLimit}
 use Rattle.rules.specs.Records.{isOpen}
 use Rattle.gateway.specs.Arguments.{startHanded, openHanded}
 use lib.ListN.{length}
-use borrow.Author.Tests.{eq-eqb, ne-eqb, lt-ltb, le-ltb, lt-leb, le-leb, ltb-false, eqb-true, not-true, not-false}
+use borrow.Author.Tests.{ne-eqb, lt-ltb, le-ltb, lt-leb, le-leb, ltb-false, eqb-true, not-true, not-false}
 use Rattle.choice.specs.Pick.{pick, both, either, not}
 use Rattle.octets.specs.Octets.{laid}
 use Rattle.choice.specs.Rules.{Rule, _⇒_, firstOr, firstBroken, numbered}
 use Rattle.choice.proofs.Picks.{Kept, both-true, either-false, clash}
 use Rattle.choice.proofs.Broken.{first-by-number}
-use Rattle.strike.specs.Service.{Call, start, opening, close, aside, Check, passes, refuses}
+use Rattle.strike.specs.Service.{Call, start, opening, close, aside, passes, refuses}
 use Rattle.strike.specs.Machine.{idle, Records, checked, step}
 use Rattle.rules.specs.declared.Core.{Core}
 use Rattle.rules.specs.declared.State.{State}

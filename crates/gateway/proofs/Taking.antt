@@ -147,8 +147,7 @@ module _ (k : Core) (room : ℕ) (r : Ready k) (e : firstBroken (takeRules k (ta
   put-asked x g =
       let size = subst EntrySized (sym g) (each-at EntrySized (entriesOf (k .queue)) 0 noEntry (entries-sized (k .queue) (r .sized .queue .each)) some) in
       let facts = core-facts k (r .kept) in
-      let right = subst (λ (y : Entry). entrySound (k .numbers) y ≡ true) (sym g) (every-at (entrySound (k .numbers)) (entriesOf (k .queue)) 0 noEntry (queue-facts (k .numbers) (k .queue) (facts .queue) .entries) some) in
-      (
+      let right = subst (λ (y : Entry). entrySound (k .numbers) y ≡ true) (sym g) (every-at (entrySound (k .numbers)) (entriesOf (k .queue)) 0 noEntry (queue-facts (k .numbers) (k .queue) (facts .queue) .entries) some) in (
         ltb-false room 212 (unbroken .0),
         between-true 1 40 (k .numbers .used) (numbers-facts (k .numbers) (facts .numbers) .used) .1,
         r .sized .numbers .root,

@@ -4,7 +4,7 @@ use native.Mathlib.Omega.{arith}
 use lib.ListN.{length}
 use Rattle.rules.specs.Calls.{taken}
 use Rattle.gateway.proofs.Answers.{take-short, take-unsound, take-refused, take-done}
-use Rattle.gateway.proofs.Taking.{ready, ready-tidy, oldest-asked, put-asked, left-asked}
+use Rattle.gateway.proofs.Taking.{Ready, ready, ready-tidy, oldest-asked, put-asked, left-asked}
 use borrow.Author.Needs.{needs}
 use Rattle.gateway.proofs.gateway_take.Statement.{statement}
 use Rattle.gateway.proofs.gateway_take.Tie as tie
@@ -15,20 +15,23 @@ returns c = take-short _ _ _ (c .if1 .taken)
 returns-2 : tie.Need-returns-2
 returns-2 c = take-unsound _ _ _ _ _ (c .before .before .state-at .ensures) (c .before .state-sound .ensures) (c .before .before .before .before .if1 .left) (c .if2 .taken)
 
+told : (c : tie.After-core) → Ready (c .before .before .before .state-at .result .core)
+told c = ready _ _ _ (c .before .before .before .state-at .ensures) (c .before .before .state-sound .ensures) (c .before .if2 .left) (λ i. omega (arith, c .before .before .before .before .before .before .before .slice-known .given i))
+
 take-refusal-requires : tie.Need-take-refusal-requires
-take-refusal-requires c κs = ready-tidy (c .before .before .before .state-at .result .core) (ready _ _ _ (c .before .before .before .state-at .ensures) (c .before .before .state-sound .ensures) (c .before .if2 .left) (λ i. omega (arith, c .before .before .before .before .before .before .before .slice-known .given i)))
+take-refusal-requires c κs = ready-tidy (c .before .before .before .state-at .result .core) (told c)
 
 returns-3 : tie.Need-returns-3
 returns-3 c = take-refused _ _ _ _ _ (c .before .before .before .before .before .state-at .ensures) (c .before .before .before .before .state-sound .ensures) (c .before .before .before .before .before .before .before .if1 .left) (c .before .before .before .if2 .left) _ (c .before .take-refusal .ensures) (c .if3 .taken)
 
 oldest-requires : tie.Need-oldest-requires
-oldest-requires c κs = oldest-asked (c .before .before .before .before .before .before .before .before .state-at .result .core) (length (now (c .before .before .before .before .before .before .before .before .before .before .before .before .before .args .entry))) (ready _ _ _ (c .before .before .before .before .before .before .before .before .state-at .ensures) (c .before .before .before .before .before .before .before .state-sound .ensures) (c .before .before .before .before .before .before .if2 .left) (λ i. omega (arith, c .before .before .before .before .before .before .before .before .before .before .before .before .slice-known .given i))) (sym (c .before .before .before .before .take-refusal .ensures) ∙ c .before .before .before .if3 .left)
+oldest-requires c κs = oldest-asked (c .before .before .before .before .before .before .before .before .state-at .result .core) (length (now (c .before .before .before .before .before .before .before .before .before .before .before .before .before .args .entry))) (told (c .before .before .before .before .before)) (sym (c .before .before .before .before .take-refusal .ensures) ∙ c .before .before .before .if3 .left)
 
 put-entry-bytes-requires : tie.Need-put-entry-bytes-requires
-put-entry-bytes-requires c κs = put-asked (c .before .before .before .before .before .before .before .before .before .state-at .result .core) _ (ready _ _ _ (c .before .before .before .before .before .before .before .before .before .state-at .ensures) (c .before .before .before .before .before .before .before .before .state-sound .ensures) (c .before .before .before .before .before .before .before .if2 .left) (λ i. omega (arith, c .before .before .before .before .before .before .before .before .before .before .before .before .before .slice-known .given i))) (sym (c .before .before .before .before .before .take-refusal .ensures) ∙ c .before .before .before .before .if3 .left) _ (c .oldest .ensures)
+put-entry-bytes-requires c κs = put-asked (c .before .before .before .before .before .before .before .before .before .state-at .result .core) _ (told (c .before .before .before .before .before .before)) (sym (c .before .before .before .before .before .take-refusal .ensures) ∙ c .before .before .before .before .if3 .left) _ (c .oldest .ensures)
 
 without-oldest-requires : tie.Need-without-oldest-requires
-without-oldest-requires c κs = left-asked (c .before .before .before .before .before .before .before .before .before .before .before .before .state-at .result .core) (length (now (c .before .before .before .before .before .before .before .before .before .before .before .before .before .before .before .before .before .args .entry))) (ready _ _ _ (c .before .before .before .before .before .before .before .before .before .before .before .before .state-at .ensures) (c .before .before .before .before .before .before .before .before .before .before .before .state-sound .ensures) (c .before .before .before .before .before .before .before .before .before .before .if2 .left) (λ i. omega (arith, c .before .before .before .before .before .before .before .before .before .before .before .before .before .before .before .before .slice-known .given i))) (sym (c .before .before .before .before .before .before .before .before .take-refusal .ensures) ∙ c .before .before .before .before .before .before .before .if3 .left)
+without-oldest-requires c κs = left-asked (c .before .before .before .before .before .before .before .before .before .before .before .before .state-at .result .core) (length (now (c .before .before .before .before .before .before .before .before .before .before .before .before .before .before .before .before .before .args .entry))) (told (c .before .before .before .before .before .before .before .before .before)) (sym (c .before .before .before .before .before .before .before .before .take-refusal .ensures) ∙ c .before .before .before .before .before .before .before .if3 .left)
 
 put-state-requires : tie.Need-put-state-requires
 put-state-requires c κs = omega (arith, c .before .before .before .before .before .before .before .before .before .before .before .before .before .before .before .before .before .if1 .left)
