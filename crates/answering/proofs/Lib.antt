@@ -1,0 +1,3 @@
+-- Requests that were asked, answered.
+mod Laws
+pub mod Fed
