@@ -1,4 +1,5 @@
-// Answering: a whole command decided, answered, and its effect written.
+// Answering: a fragment fed: collected, and a whole command decided, answered, and its effect written.
+use collecting::Answer;
 use instances::Data;
 use rules::Command;
 use rules::Core;
@@ -8,11 +9,14 @@ ghost use Prim.Native.Nat.{_≤_};
 ghost use lib.ListN.{length, take};
 ghost use Rattle.octets.specs.Octets.{laid};
 ghost use Rattle.rules.specs.Checks.{dataOf, decideRequest, decide};
-ghost use Rattle.rules.specs.Outcomes.{reportBytes};
+ghost use Rattle.rules.specs.Outcomes.{reportBytes, feeds};
 ghost use Rattle.instances.specs.Meant.{dataMeant};
 ghost use Rattle.verdicts.specs.Ready.{Ready, UidsIn};
 ghost use Rattle.feeding.specs.Feeding.{unknownReply};
 ghost use Rattle.answering.specs.Answered.{replyIn, settledBy, unknownResult, RoomFor};
+
+// The bytes of the records.
+const RECORDS: usize = 7072;
 
 // A request that is known: decided, answered, and its effect written.
 fn known(
@@ -44,7 +48,7 @@ fn unknown(records: &mut [u8], command: &mut [u8], report: &mut [u8], message: u
 }
 
 // A request whose command is whole, the first bytes of a text.
-pub fn asked(
+fn asked(
     records: &mut [u8],
     command: &mut [u8],
     data_set: &mut [u8],
@@ -73,5 +77,103 @@ pub fn asked(
             d,
             request,
         ),
+    }
+}
+
+// Feed: a fragment collected; a whole command is decided and answered.
+pub fn feed(
+    records: &mut [u8],
+    message: &mut [u8],
+    fragment: &[u8],
+    command: &mut [u8],
+    data_set: &mut [u8],
+    report: &mut [u8],
+) -> u32
+    ensures { λ r. ⌜ record { number = r; records = now (records .exit); message = now (message .exit); command = now (command .exit); dataSet = now (data_set .exit); report = now (report .exit) } ≡ feeds (record { records = now (records .entry); message = now (message .entry); command = now (command .entry); dataSet = now (data_set .entry); report = now (report .entry) }) (now (fragment .entry)) ⌝ }
+{
+    if records.len() < RECORDS {
+        return 2;
+    }
+    let s = records::state_at(records, 0);
+    if !soundness::state_sound(s) {
+        return 1;
+    }
+    let k = s.core;
+    let refused = feeding::feed_refused(
+        k,
+        message.len(),
+        command.len(),
+        data_set.len(),
+        report.len(),
+    );
+    if refused != 0 {
+        return refused;
+    }
+    let opened = k.opened;
+    if collecting::header_wrong(opened.context, fragment) {
+        feeding::put_core(records, shelves::closed(k));
+        return 5;
+    }
+    let r = collecting::collect(s.input, message, fragment);
+    let i = r.input;
+    let text = i.command;
+    let used = i.used as usize;
+    let answer = r.answer;
+    match answer {
+        Answer::Ignored => {
+            feeding::put_input(records, i);
+            18
+        }
+        Answer::Wait => {
+            feeding::put_input(records, i);
+            16
+        }
+        Answer::Dropped => {
+            feeding::put_input(records, i);
+            17
+        }
+        Answer::AsksAlone => {
+            asked(
+                records,
+                command,
+                data_set,
+                report,
+                k,
+                text,
+                used,
+                Data::Absent,
+                b"",
+            );
+            19
+        }
+        Answer::AsksWhole => {
+            let d = instances::front(message, i.got as usize);
+            asked(
+                records,
+                command,
+                data_set,
+                report,
+                k,
+                text,
+                used,
+                Data::Whole,
+                d,
+            );
+            19
+        }
+        Answer::AsksTooLong => {
+            asked(
+                records,
+                command,
+                data_set,
+                report,
+                k,
+                text,
+                used,
+                Data::TooLong,
+                b"",
+            );
+            19
+        }
     }
 }

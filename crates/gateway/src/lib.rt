@@ -18,7 +18,7 @@ ghost use Rattle.rules.specs.Bounds.{rootLimit};
 ghost use Rattle.rules.specs.Lists.{filledTo};
 ghost use Rattle.rules.specs.Records.{rootOf, uidOf, noEntry, entriesOf, queued, withQueue};
 ghost use Rattle.rules.specs.Calls.{badRoot, badNumber, messageWrong, badContext, badSyntax, startRules, openRules, takeRules, started, opened, entryBytes};
-ghost use Rattle.rules.specs.Outcomes.{written, starts, opens, closes, takes};
+ghost use Rattle.rules.specs.Outcomes.{written, starts, opens, closes, feeds, takes};
 ghost use Rattle.gateway.specs.Arguments.{startHanded, openHanded, closeHanded, takeHanded};
 
 // The bytes of the records.
@@ -215,6 +215,22 @@ pub extern "C" fn gateway_open(records: &mut [u8], message: &[u8], context: u32,
     let now_open = opened(core, message.len(), context, syntax);
     put_idle(records, now_open);
     0
+}
+
+// Feed.
+
+#[no_mangle]
+pub extern "C" fn gateway_feed(
+    records: &mut [u8],
+    message: &mut [u8],
+    fragment: &[u8],
+    command: &mut [u8],
+    data_set: &mut [u8],
+    report: &mut [u8],
+) -> u32
+    ensures { λ r. ⌜ record { number = r; records = now (records .exit); message = now (message .exit); command = now (command .exit); dataSet = now (data_set .exit); report = now (report .exit) } ≡ feeds (record { records = now (records .entry); message = now (message .entry); command = now (command .entry); dataSet = now (data_set .entry); report = now (report .entry) }) (now (fragment .entry)) ⌝ }
+{
+    answering::feed(records, message, fragment, command, data_set, report)
 }
 
 // Close.
