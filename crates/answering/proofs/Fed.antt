@@ -34,8 +34,8 @@ use Rattle.promises.proofs.Unpacked.{unpacked-sized}
 use Rattle.verdicts.specs.Ready.{Ready}
 use Rattle.feeding.specs.Feeding.{inputWritten}
 use Rattle.feeding.proofs.Feeds.{feeds-unsound, feeds-refused, feeds-room, feeds-ready, feeds-wrong, feeds-ignored, feeds-waits, feeds-dropped, feeds-failed, feeds-done}
-use Rattle.answering.specs.Answered.{RoomFor}
-use Rattle.answering.proofs.Laws.{Leaves}
+use Rattle.asking.specs.Answered.{RoomFor}
+use Rattle.asking.proofs.Laws.{Leaves}
 
 -- the buffers are long enough where no rule is broken
 none-short : (a b c d e : Bool) → firstBroken ((a ⇒ 2) ∷ (b ⇒ 2) ∷ (c ⇒ 2) ∷ (d ⇒ 2) ∷ (e ⇒ 4) ∷ []) ≡ 0 → (b ≡ false) × (c ≡ false) × (d ≡ false)

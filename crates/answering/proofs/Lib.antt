@@ -1,3 +1,2 @@
--- Requests that were asked, answered.
-mod Laws
-pub mod Fed
+-- A feed by each way out of it.
+mod Fed

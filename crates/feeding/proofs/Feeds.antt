@@ -10,8 +10,8 @@ use lib.Dec.{eqb, leb, ltb}
 use lib.ListN.{length}
 use borrow.Author.Tests.{ne-eqb, lt-ltb, le-ltb, lt-leb, le-leb, eqb-true, leb-true, ltb-false}
 use Rattle.choice.specs.Pick.{pick, both, either, not}
-use Rattle.choice.specs.Rules.{Rule, _⇒_, firstOr, firstBroken, numbered}
-use Rattle.choice.proofs.Picks.{Kept, both-true, both-second, either-false, not-false, clash}
+use Rattle.choice.specs.Rules.{Rule, _⇒_, firstOr, firstBroken}
+use Rattle.choice.proofs.Picks.{both-true, both-second, either-false, not-false}
 use Rattle.choice.proofs.Broken.{first-by-number}
 use Rattle.octets.specs.Octets.{laid, Bytes}
 use Rattle.strike.specs.Service.{Check, passes, refuses, DataSet, Result, fails, does, feed}
@@ -34,6 +34,7 @@ use Rattle.collecting.specs.declared.Collected.{Collected}
 use Rattle.collecting.specs.Collecting.{Filled, fragmentOf, collectedOf, meantBy, outcomeMeant}
 use Rattle.collecting.proofs.Meant.{collected-meant, fragment-in, sound-filled}
 use Rattle.promises.proofs.ListLaws.{all-true}
+use Rattle.verdicts.proofs.Plans.{none-broken}
 use Rattle.promises.proofs.Kept.{sound-parts}
 use Rattle.promises.proofs.Packed.{state-laws}
 use Rattle.feeding.specs.Feeding.{inputWritten, settled}
@@ -49,12 +50,6 @@ module _ {A : Type 0} (f : ℕ → A) (b : List ℕ) (x : A) where
 
   pub records-kept : recordsSize ≤ length b → sound (unpack b) ≡ true → firstOr f (recordsRules b) x ≡ x
   records-kept h e = rw (le-leb recordsSize (length b) h, e, le-ltb (length b) recordsSize h)
-
--- no rule is broken where the number is 0
-none-broken : (rules : List Rule) → numbered rules ≡ true → firstBroken rules ≡ 0 → Kept rules
-none-broken [] h e = tt
-none-broken ((true ⇒ n) ∷ rules) h e = absurd (clash (rw e) (both-true (not (eqb n 0)) (numbered rules) h .0))
-none-broken ((false ⇒ n) ∷ rules) h e = (refl, none-broken rules (both-true (not (eqb n 0)) (numbered rules) h .1) e)
 
 -- no rule of a feed has the number of a wrong header
 never-header : (a b c d e : Bool) → eqb (firstBroken ((a ⇒ 2) ∷ (b ⇒ 2) ∷ (c ⇒ 2) ∷ (d ⇒ 2) ∷ (e ⇒ 4) ∷ [])) 5 ≡ false

@@ -1,0 +1,2 @@
+-- What a result leaves in the buffers.
+pub mod Laws

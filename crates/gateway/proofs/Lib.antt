@@ -1,3 +1,0 @@
--- A call by the number of the first rule that it breaks; the oldest entry in bytes.
-mod Answers
-mod Taking

@@ -1,0 +1,2 @@
+-- A call by the number of the first rule that it breaks.
+mod Answers

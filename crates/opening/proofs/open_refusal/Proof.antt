@@ -1,0 +1,32 @@
+use borrow.Author.Tests.{eq-eqb, ne-eqb}
+use borrow.Author.Needs.{needs}
+use Rattle.opening.proofs.open_refusal.Statement.{statement}
+use Rattle.opening.proofs.open_refusal.Tie as tie
+
+returns : tie.Need-returns
+returns c = simp (← (c .before .message-wrong .ensures), c .if1 .taken)
+
+returns-2 : tie.Need-returns-2
+returns-2 c = simp (← (c .before .before .before .message-wrong .ensures), c .before .before .if1 .left, ← (c .before .context-bad .ensures), c .if2 .taken)
+
+returns-3 : tie.Need-returns-3
+returns-3 c = simp (← (c .before .before .before .before .before .message-wrong .ensures), c .before .before .before .before .if1 .left, ← (c .before .before .before .context-bad .ensures), c .before .before .if2 .left, ← (c .before .syntax-bad .ensures), c .if3 .taken)
+
+returns-4 : tie.Need-returns-4
+returns-4 c = simp (← (c .before .before .before .before .before .before .before .before .message-wrong .ensures), c .before .before .before .before .before .before .before .if1 .left, ← (c .before .before .before .before .before .before .context-bad .ensures), c .before .before .before .before .before .if2 .left, ← (c .before .before .before .before .syntax-bad .ensures), c .before .before .before .if3 .left) (simp (ne-eqb _ _ (c .if4 .taken)))
+
+returns-5 : tie.Need-returns-5
+returns-5 c = simp (← (c .before .before .before .before .before .before .before .before .message-wrong .ensures), c .before .before .before .before .before .before .before .if1 .left, ← (c .before .before .before .before .before .before .context-bad .ensures), c .before .before .before .before .before .if2 .left, ← (c .before .before .before .before .syntax-bad .ensures), c .before .before .before .if3 .left) (simp (eq-eqb _ _ (c .if4 .left)))
+
+pub open-refusal-spec : {M : Type 1} → statement M
+open-refusal-spec =
+    tie.close
+    (tie.spec
+    (λ c κs. search needs)
+    returns
+    (λ c κs. search needs)
+    returns-2
+    (λ c κs. search needs)
+    returns-3
+    returns-4
+    returns-5)
