@@ -10,4 +10,5 @@ pub mod Right
 pub mod Begins
 pub mod Numbers
 pub mod StrikeOut
+pub mod Contracts
 pub mod AtWork
