@@ -161,7 +161,7 @@ fn box_place(n: Numbers, f: Film, uid: &[u8]) -> usize
 {
     let root = n.root;
     let layout = f.layout;
-    let count = soundness::box_count(layout) as usize;
+    let count = distinct::box_count(layout) as usize;
     let first = f.first;
     made_place(front(&root, n.used as usize), first.0, count, uid)
 }
@@ -172,7 +172,7 @@ fn has_box(n: Numbers, f: Film, uid: &[u8]) -> bool
     ensures { λ r. ⌜ r ≡ boxNamed n (now (uid .entry)) f ⌝ }
 {
     let layout = f.layout;
-    let count = soundness::box_count(layout) as usize;
+    let count = distinct::box_count(layout) as usize;
     box_place(n, f, uid) < count
 }
 

@@ -1,5 +1,4 @@
 -- What one turn of each loop does, and what is queued.
-mod Sums
 mod Rest
 mod Positions
 mod Counted

@@ -3,7 +3,6 @@ use rules::Core;
 use rules::Entry;
 use rules::Film;
 use rules::ImageBox;
-use rules::Layout;
 use rules::Numbers;
 use rules::Picture;
 use rules::Queue;
@@ -16,40 +15,10 @@ ghost use lib.ListN.{length, getD, take, drop};
 ghost use Rattle.choice.specs.Pick.{both, not};
 ghost use Rattle.choice.specs.Rules.{_⇒_, firstBroken};
 ghost use Rattle.rules.specs.Bounds.{mostBoxes, mostEntries};
-ghost use Rattle.rules.specs.Lists.{any, apart, sum, from};
-ghost use Rattle.rules.specs.Records.{boxCount, boxesOf, filled, noFilm, filmsOf, entriesOf, queued};
+ghost use Rattle.rules.specs.Lists.{any, apart, from};
+ghost use Rattle.rules.specs.Records.{boxesOf, filled, noFilm, filmsOf, entriesOf, queued};
 ghost use Rattle.rules.specs.Effects.{filmAt, pictureOn, entryOf, nextTicket, ticketed, printed, filledBoxes, noneFilled};
 ghost use Rattle.rules.specs.Checks.{samePosition, collides, sessionPrintRules, filmPrintRules};
-
-fn wide(b: u8) -> u64
-    ensures { λ r. ⌜ (r ≡ b) × (r < 256) ⌝ }
-{
-    b as u64
-}
-
-// The sum of the first n.
-fn sum_of(a: [u8; 6], n: usize) -> u64
-    ensures { λ r. ⌜ (r ≡ sum (take n a)) × (r ≤ 1530) ⌝ }
-{
-    let xs = a;
-    let mut v: u64 = 0;
-    let mut i = 0;
-    while i < 6 {
-        if n <= i {
-            return v;
-        }
-        v = v + wide(xs[i]);
-        i += 1;
-    }
-    v
-}
-
-fn box_count(l: Layout) -> u64
-    ensures { λ r. ⌜ (r ≡ boxCount l) × (r ≤ 1530) ⌝ }
-{
-    let counts = l.counts;
-    sum_of(counts, l.lines as usize)
-}
 
 // How many of the first n boxes there are.
 fn boxes_within(a: [ImageBox; 36], n: usize) -> usize
@@ -65,7 +34,7 @@ fn places(f: Film) -> usize
     ensures { λ r. ⌜ (r ≤ 36) × (take r (f .boxes) ≡ boxesOf f) ⌝ }
 {
     let layout = f.layout;
-    let count = box_count(layout) as usize;
+    let count = distinct::box_count(layout) as usize;
     let boxes = f.boxes;
     boxes_within(boxes, count)
 }

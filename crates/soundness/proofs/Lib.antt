@@ -1,4 +1,2 @@
--- What one turn of each loop does, and the first bytes of a list.
+-- What one turn of each loop does.
 mod Every
-mod Parts
-mod Sums

@@ -15,15 +15,15 @@ use rules::Session;
 use rules::Shelf;
 use rules::State;
 ghost use mathlib.Core.Path.{_≡_};
-ghost use Prim.Native.Nat.{_+_, _<_, _≤_};
+ghost use Prim.Native.Nat.{_+_};
 ghost use mathlib.Core.List.{[], _∷_};
 ghost use lib.Dec.{eqb, leb, ltb};
-ghost use lib.ListN.{length, take, drop};
+ghost use lib.ListN.{take, drop};
 ghost use Rattle.choice.specs.Pick.{pick, not};
 ghost use Rattle.octets.specs.Octets.{same};
 ghost use Rattle.uids.specs.Uids.{isUid, beginsWith};
 ghost use Rattle.rules.specs.Bounds.{mostFilms};
-ghost use Rattle.rules.specs.Lists.{every, sum};
+ghost use Rattle.rules.specs.Lists.{every};
 ghost use Rattle.rules.specs.Records.{boxCount, boxesOf, isLive};
 ghost use Rattle.rules.specs.Values.{trimmed, labelAllowed};
 ghost use Rattle.rules.specs.Commands.{understood};
@@ -49,18 +49,11 @@ fn all_zero(s: &[u8]) -> bool
     zeros_from(s, 0)
 }
 
-// How many of the first n bytes there are.
-fn within(s: &[u8], n: usize) -> usize
-    ensures { λ r. ⌜ (r ≤ length (now (s .entry))) × (take r (now (s .entry)) ≡ take n (now (s .entry))) ⌝ }
-{
-    if s.len() < n { s.len() } else { n }
-}
-
 // Whether the first n bytes are a UID.
 fn begins_uid(s: &[u8], n: usize) -> bool
     ensures { λ r. ⌜ r ≡ isUid (take n (now (s .entry))) ⌝ }
 {
-    let m = within(s, n);
+    let m = distinct::within(s, n);
     uids::is_uid(&s[0..m])
 }
 
@@ -68,8 +61,8 @@ fn begins_uid(s: &[u8], n: usize) -> bool
 fn rooted(root: &[u8], k: usize, text: &[u8], n: usize) -> bool
     ensures { λ r. ⌜ r ≡ beginsWith (take k (now (root .entry))) (take n (now (text .entry))) ⌝ }
 {
-    let a = within(root, k);
-    let b = within(text, n);
+    let a = distinct::within(root, k);
+    let b = distinct::within(text, n);
     uids::begins_with(&root[0..a], &text[0..b])
 }
 
@@ -225,7 +218,7 @@ fn all_same(s: &[u8], k: u8) -> bool
 fn begins_same(s: &[u8], n: usize, k: u8) -> bool
     ensures { λ r. ⌜ r ≡ every (eqb k) (take n (now (s .entry))) ⌝ }
 {
-    let m = within(s, n);
+    let m = distinct::within(s, n);
     all_same(&s[0..m], k)
 }
 
@@ -408,7 +401,7 @@ pub fn session_blank(s: Session) -> bool
 fn begins_label(s: &[u8], n: usize) -> bool
     ensures { λ r. ⌜ r ≡ labelAllowed (take n (now (s .entry))) ⌝ }
 {
-    let m = within(s, n);
+    let m = distinct::within(s, n);
     values::label_allowed(&s[0..m])
 }
 
@@ -422,7 +415,7 @@ fn is_trimmed(s: &[u8]) -> bool
 fn begins_trimmed(s: &[u8], n: usize) -> bool
     ensures { λ r. ⌜ r ≡ same (trimmed (take n (now (s .entry)))) (take n (now (s .entry))) ⌝ }
 {
-    let m = within(s, n);
+    let m = distinct::within(s, n);
     is_trimmed(&s[0..m])
 }
 
@@ -583,42 +576,12 @@ pub fn film_blank(f: Film) -> bool
     boxes_blank_from(boxes, 0)
 }
 
-fn wide(b: u8) -> u64
-    ensures { λ r. ⌜ (r ≡ b) × (r < 256) ⌝ }
-{
-    b as u64
-}
-
-// The sum of the first n.
-fn sum_of(a: [u8; 6], n: usize) -> u64
-    ensures { λ r. ⌜ (r ≡ sum (take n a)) × (r ≤ 1530) ⌝ }
-{
-    let xs = a;
-    let mut v: u64 = 0;
-    let mut i = 0;
-    while i < 6 {
-        if n <= i {
-            return v;
-        }
-        v = v + wide(xs[i]);
-        i += 1;
-    }
-    v
-}
-
-pub fn box_count(l: Layout) -> u64
-    ensures { λ r. ⌜ (r ≡ boxCount l) × (r ≤ 1530) ⌝ }
-{
-    let counts = l.counts;
-    sum_of(counts, l.lines as usize)
-}
-
 // The film's boxes have their serials below the next.
 fn serials_fit(n: Numbers, f: Film) -> bool
     ensures { λ r. ⌜ r ≡ leb (f .first .0 + boxCount (f .layout)) (n .serial) ⌝ }
 {
     let layout = f.layout;
-    let count = box_count(layout);
+    let count = distinct::box_count(layout);
     let first = f.first;
     if n.serial < first.0 as u64 + count {
         return false;
@@ -630,7 +593,7 @@ fn boxes_fit(n: Numbers, f: Film) -> bool
     ensures { λ r. ⌜ r ≡ every (boxSound (boxCount (f .layout)) n) (boxesOf f) ⌝ }
 {
     let layout = f.layout;
-    let count = box_count(layout) as usize;
+    let count = distinct::box_count(layout) as usize;
     let boxes = f.boxes;
     boxes_sound(count, n, boxes)
 }
@@ -639,7 +602,7 @@ fn others_blank(f: Film) -> bool
     ensures { λ r. ⌜ r ≡ every boxBlank (drop (boxCount (f .layout)) (f .boxes)) ⌝ }
 {
     let layout = f.layout;
-    let count = box_count(layout) as usize;
+    let count = distinct::box_count(layout) as usize;
     let boxes = f.boxes;
     boxes_blank_from(boxes, count)
 }
@@ -748,7 +711,7 @@ fn is_readable(command: Command) -> bool
 fn begins_readable(s: &[u8], n: usize) -> bool
     ensures { λ r. ⌜ r ≡ readable (understood (take n (now (s .entry)))) ⌝ }
 {
-    let m = within(s, n);
+    let m = distinct::within(s, n);
     is_readable(commands::understood(&s[0..m]))
 }
 
