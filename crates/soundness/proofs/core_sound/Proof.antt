@@ -1,7 +1,7 @@
 use mathlib.Core.Path.{sym, _∙_}
 use borrow.Author.Tests.{le-leb, lt-leb, not-true, not-false}
 use Rattle.rules.specs.Sound.{coreSound}
-use Rattle.soundness.proofs.Every.{all-next, all-one, all-stop}
+use Rattle.names.proofs.Every.{all-next, all-one, all-stop}
 use borrow.Author.Needs.{needs}
 use Rattle.soundness.proofs.core_sound.Statement.{statement}
 use Rattle.soundness.proofs.core_sound.Tie as tie

@@ -1,6 +1,6 @@
 use borrow.Author.Tests.{eq-eqb, ne-eqb}
 use Rattle.rules.specs.Lists.{every}
-use Rattle.soundness.proofs.Every.{both-true}
+use Rattle.names.proofs.Every.{both-true}
 use Rattle.soundness.proofs.holds_nothing.Statement.{statement}
 use Rattle.soundness.proofs.holds_nothing.Tie as tie
 

@@ -2,7 +2,7 @@ use mathlib.Core.Path.{ap, sym, _∙_}
 use lib.Dec.{leb}
 use borrow.Author.Tests.{le-leb, lt-leb, not-true, not-false}
 use Rattle.rules.specs.Sound.{inputSound}
-use Rattle.soundness.proofs.Every.{all-next, all-one, all-stop}
+use Rattle.names.proofs.Every.{all-next, all-one, all-stop}
 use borrow.Author.Needs.{needs}
 use Rattle.soundness.proofs.input_sound.Statement.{statement}
 use Rattle.soundness.proofs.input_sound.Tie as tie

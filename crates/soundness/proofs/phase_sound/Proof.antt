@@ -1,5 +1,5 @@
 use borrow.Author.Tests.{le-leb, lt-leb, eq-eqb, ne-eqb}
-use Rattle.soundness.proofs.Every.{both-true, both-false}
+use Rattle.names.proofs.Every.{both-true, both-false}
 use borrow.Author.Needs.{needs}
 use Rattle.soundness.proofs.phase_sound.Statement.{statement}
 use Rattle.soundness.proofs.phase_sound.Tie as tie

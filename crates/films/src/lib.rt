@@ -1,0 +1,286 @@
+// Films: layouts, boxes and films, tested by the records' rules.
+use rules::Film;
+use rules::ImageBox;
+use rules::Layout;
+use rules::Numbers;
+use rules::Session;
+use rules::Shelf;
+ghost use mathlib.Core.Path.{_≡_};
+ghost use Prim.Native.Nat.{_+_};
+ghost use mathlib.Core.List.{[], _∷_};
+ghost use lib.Dec.{eqb, leb};
+ghost use lib.ListN.{take, drop};
+ghost use Rattle.choice.specs.Pick.{pick, not};
+ghost use Rattle.rules.specs.Bounds.{mostFilms};
+ghost use Rattle.rules.specs.Lists.{every};
+ghost use Rattle.rules.specs.Records.{boxCount, boxesOf};
+ghost use Rattle.rules.specs.Sound.{zeros, layoutSound, boxSound, boxBlank, filmBlank, filmSound, shelfSound};
+
+// Whether every byte is k.
+fn all_same(s: &[u8], k: u8) -> bool
+    ensures { λ r. ⌜ r ≡ every (eqb k) (now (s .entry)) ⌝ }
+{
+    let mut i = 0;
+    while i < s.len() {
+        if k != s[i] {
+            return false;
+        }
+        i += 1;
+    }
+    true
+}
+
+fn begins_same(s: &[u8], n: usize, k: u8) -> bool
+    ensures { λ r. ⌜ r ≡ every (eqb k) (take n (now (s .entry))) ⌝ }
+{
+    let m = distinct::within(s, n);
+    all_same(&s[0..m], k)
+}
+
+fn layout_sound(l: Layout) -> bool
+    ensures { λ r. ⌜ r ≡ layoutSound l ⌝ }
+{
+    if l.lines < 1 {
+        return false;
+    }
+    if 6 < l.lines {
+        return false;
+    }
+    let counts = l.counts;
+    let columns = counts[0];
+    if columns < 1 {
+        return false;
+    }
+    if 6 < columns {
+        return false;
+    }
+    if !begins_same(&counts, l.lines as usize, columns) {
+        return false;
+    }
+    names::zeros_from(&counts, l.lines as usize)
+}
+
+fn box_sound(boxes: usize, n: Numbers, b: ImageBox) -> bool
+    ensures { λ r. ⌜ r ≡ boxSound boxes n b ⌝ }
+{
+    if b.position < 1 {
+        return false;
+    }
+    if boxes < b.position as usize {
+        return false;
+    }
+    if 1 < b.polarity {
+        return false;
+    }
+    let picture = b.picture;
+    if n.picture <= picture.0 as u64 {
+        return false;
+    }
+    true
+}
+
+fn box_blank(b: ImageBox) -> bool
+    ensures { λ r. ⌜ r ≡ boxBlank b ⌝ }
+{
+    if b.position != 0 {
+        return false;
+    }
+    if b.polarity != 0 {
+        return false;
+    }
+    let picture = b.picture;
+    if picture.0 != 0 {
+        return false;
+    }
+    true
+}
+
+fn boxes_blank_from(a: [ImageBox; 36], from: usize) -> bool
+    ensures { λ r. ⌜ r ≡ every boxBlank (drop from a) ⌝ }
+{
+    let xs = a;
+    let mut i = from;
+    while i < 36 {
+        let x = xs[i];
+        if !box_blank(x) {
+            return false;
+        }
+        i += 1;
+    }
+    true
+}
+
+fn boxes_sound(count: usize, n: Numbers, a: [ImageBox; 36]) -> bool
+    ensures { λ r. ⌜ r ≡ every (boxSound count n) (take count a) ⌝ }
+{
+    let xs = a;
+    let mut i = 0;
+    while i < 36 {
+        if count <= i {
+            return true;
+        }
+        let x = xs[i];
+        if !box_sound(count, n, x) {
+            return false;
+        }
+        i += 1;
+    }
+    true
+}
+
+fn unmarked(f: Film) -> bool
+    ensures { λ r. ⌜ r ≡ zeros (f .layout .lines ∷ f .orientation ∷ f .magnification ∷ f .first .0 ∷ []) ⌝ }
+{
+    let layout = f.layout;
+    if layout.lines != 0 {
+        return false;
+    }
+    if f.orientation != 0 {
+        return false;
+    }
+    if f.magnification != 0 {
+        return false;
+    }
+    let first = f.first;
+    if first.0 != 0 {
+        return false;
+    }
+    true
+}
+
+pub fn film_blank(f: Film) -> bool
+    ensures { λ r. ⌜ r ≡ filmBlank f ⌝ }
+{
+    let name = f.name;
+    if !names::name_blank(name) {
+        return false;
+    }
+    if !unmarked(f) {
+        return false;
+    }
+    let layout = f.layout;
+    let counts = layout.counts;
+    if !names::all_zero(&counts) {
+        return false;
+    }
+    let boxes = f.boxes;
+    boxes_blank_from(boxes, 0)
+}
+
+// The film's boxes have their serials below the next.
+fn serials_fit(n: Numbers, f: Film) -> bool
+    ensures { λ r. ⌜ r ≡ leb (f .first .0 + boxCount (f .layout)) (n .serial) ⌝ }
+{
+    let layout = f.layout;
+    let count = distinct::box_count(layout);
+    let first = f.first;
+    if n.serial < first.0 as u64 + count {
+        return false;
+    }
+    true
+}
+
+fn boxes_fit(n: Numbers, f: Film) -> bool
+    ensures { λ r. ⌜ r ≡ every (boxSound (boxCount (f .layout)) n) (boxesOf f) ⌝ }
+{
+    let layout = f.layout;
+    let count = distinct::box_count(layout) as usize;
+    let boxes = f.boxes;
+    boxes_sound(count, n, boxes)
+}
+
+fn others_blank(f: Film) -> bool
+    ensures { λ r. ⌜ r ≡ every boxBlank (drop (boxCount (f .layout)) (f .boxes)) ⌝ }
+{
+    let layout = f.layout;
+    let count = distinct::box_count(layout) as usize;
+    let boxes = f.boxes;
+    boxes_blank_from(boxes, count)
+}
+
+pub fn film_sound(n: Numbers, f: Film) -> bool
+    ensures { λ r. ⌜ r ≡ filmSound n f ⌝ }
+{
+    let name = f.name;
+    if !names::name_sound(n, name) {
+        return false;
+    }
+    let layout = f.layout;
+    if !layout_sound(layout) {
+        return false;
+    }
+    if 1 < f.orientation {
+        return false;
+    }
+    if 3 < f.magnification {
+        return false;
+    }
+    let first = f.first;
+    if first.0 < 1 {
+        return false;
+    }
+    if !serials_fit(n, f) {
+        return false;
+    }
+    if !boxes_fit(n, f) {
+        return false;
+    }
+    others_blank(f)
+}
+
+fn films_blank_from(a: [Film; 8], from: usize) -> bool
+    ensures { λ r. ⌜ r ≡ every filmBlank (drop from a) ⌝ }
+{
+    let xs = a;
+    let mut i = from;
+    while i < 8 {
+        let x = xs[i];
+        if !film_blank(x) {
+            return false;
+        }
+        i += 1;
+    }
+    true
+}
+
+fn films_sound(count: usize, n: Numbers, a: [Film; 8]) -> bool
+    ensures { λ r. ⌜ r ≡ every (filmSound n) (take count a) ⌝ }
+{
+    let xs = a;
+    let mut i = 0;
+    while i < 8 {
+        if count <= i {
+            return true;
+        }
+        let x = xs[i];
+        if !film_sound(n, x) {
+            return false;
+        }
+        i += 1;
+    }
+    true
+}
+
+// How many films there may be: none without a session.
+fn films_allowed(live: u8) -> usize
+    ensures { λ r. ⌜ r ≡ pick (not (eqb live 0)) mostFilms 0 ⌝ }
+{
+    if live == 0 {
+        return 0;
+    }
+    8
+}
+
+pub fn shelf_sound(n: Numbers, s: Session, shelf: Shelf) -> bool
+    ensures { λ r. ⌜ r ≡ shelfSound n s shelf ⌝ }
+{
+    let count = shelf.count as usize;
+    if films_allowed(s.live) < count {
+        return false;
+    }
+    let films = shelf.films;
+    if !films_sound(count, n, films) {
+        return false;
+    }
+    films_blank_from(films, count)
+}

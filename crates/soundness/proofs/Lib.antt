@@ -1,2 +1,0 @@
--- What one turn of each loop does.
-mod Every
