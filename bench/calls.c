@@ -5,7 +5,7 @@
 #include <time.h>
 
 #include "../include/gateway.h"
-#include "../tests/records/full.h"
+#include "../tests/lent/full.h"
 
 enum { CALLS = 2000, ROUNDS = 7 };
 

@@ -3,8 +3,8 @@
 #include <stdlib.h>
 #include <time.h>
 
-#include "data_sets.h"
-#include "inspect.h"
+#include "../host/data_sets.h"
+#include "../include/inspect.h"
 #include "plain_reader.h"
 
 enum { MOST_ROUNDS = 99 };

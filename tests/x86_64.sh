@@ -12,6 +12,16 @@ else
     fi
 fi
 
+# The archive of a crate in target/staticlib: proved and built where it is missing, or older than a file of the crates.
+archive() {
+    local built=target/staticlib/lib$1.a said
+    if [ -f "$built" ] && [ -z "$(find crates crates.txt -newer "$built" -print -quit)" ]; then
+        return
+    fi
+    echo "proving and building $built, which takes minutes where nothing is proved yet" >&2
+    said=$(rt staticlib "$1" 2>&1) || { echo "$said" >&2; return 1; }
+}
+
 # Compiles strictly: options, sources, archives, -o program.
 cc_x86_64() { "${x86_64_cc[@]}" -std=c11 -D_POSIX_C_SOURCE=200809L -Wall -Wextra -Werror "$@"; }
 

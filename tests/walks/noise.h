@@ -2,7 +2,7 @@
 #ifndef NOISE_H
 #define NOISE_H
 
-#include "../../bench/data_sets.h"
+#include "../../host/data_sets.h"
 
 /* A generator of numbers; its state is its seed, not 0. */
 struct noise {

@@ -5,7 +5,7 @@
 #include <stdlib.h>
 #include <string.h>
 
-#include "../../bench/inspect.h"
+#include "../../include/inspect.h"
 #include "../../bench/plain_reader.h"
 #include "noise.h"
 

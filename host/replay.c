@@ -4,13 +4,14 @@
  *
  * A line that is no call ends the program with status 2. */
 #include <errno.h>
-#include <stdbool.h>
 #include <stdint.h>
 #include <stdio.h>
 #include <stdlib.h>
 #include <string.h>
 
 #include "../include/gateway.h"
+#include "data_sets.h"
+#include "hex.h"
 
 struct bytes {
     uint8_t *at;
@@ -35,26 +36,16 @@ static uint8_t *room_for(size_t length)
     return at;
 }
 
-static int digit(char c)
-{
-    if (c >= '0' && c <= '9')
-        return c - '0';
-    if (c >= 'a' && c <= 'f')
-        return c - 'a' + 10;
-    no_call("a word that is not hexadecimal");
-}
-
 /* The bytes of a word in hexadecimal; - is none. The caller frees them. */
 static struct bytes from_hex(const char *word)
 {
     if (!word)
         no_call("too few words");
-    size_t length = strcmp(word, "-") == 0 ? 0 : strlen(word);
-    if (length % 2)
-        no_call("half a byte");
-    struct bytes b = { room_for(length / 2), length / 2 };
-    for (size_t i = 0; i < b.length; i++)
-        b.at[i] = (uint8_t)(digit(word[2 * i]) << 4 | digit(word[2 * i + 1]));
+    if (strcmp(word, "-") == 0)
+        word = "";
+    struct bytes b = { room_for(strlen(word) / 2), strlen(word) / 2 };
+    if (strlen(word) % 2 || !hex_bytes(word, b.at))
+        no_call("a word that is not hexadecimal");
     return b;
 }
 
@@ -122,30 +113,26 @@ static void call_open(void)
     put_number_returned(n);
 }
 
-static uint32_t little(const uint8_t *at, int width)
-{
-    uint32_t n = 0;
-    while (width-- > 0)
-        n = n << 8 | at[width];
-    return n;
-}
-
 static void put_response(const uint8_t *command, const uint8_t *data, const uint8_t *report)
 {
-    printf("response %04x ", (unsigned)little(report, 2));
-    put_hex(command, little(report + 2, 2));
+    printf("response %04x ", (unsigned)number_at(report + GATEWAY_REPORT_STATUS, 2));
+    put_hex(command, number_at(report + GATEWAY_REPORT_COMMAND, 2));
     putchar(' ');
-    put_hex(data, little(report + 4, 2));
-    switch (little(report + 6, 2)) {
+    put_hex(data, number_at(report + GATEWAY_REPORT_DATA, 2));
+    switch (number_at(report + GATEWAY_REPORT_NOTE, 2)) {
+    case GATEWAY_NOTE_NONE:
+        puts(" none");
+        break;
     case GATEWAY_NOTE_QUEUED:
-        printf(" queued %u\n", (unsigned)little(report + 8, 4));
+        printf(" queued %u\n", (unsigned)number_at(report + GATEWAY_REPORT_FILMS, 4));
         break;
     case GATEWAY_NOTE_PICTURE:
-        printf(" picture %u %u %u\n", (unsigned)little(report + 8, 4), (unsigned)little(report + 12, 4),
-               (unsigned)little(report + 16, 4));
+        printf(" picture %u %u %u\n", (unsigned)number_at(report + GATEWAY_REPORT_PICTURE, 4),
+               (unsigned)number_at(report + GATEWAY_REPORT_PLACE, 4),
+               (unsigned)number_at(report + GATEWAY_REPORT_LENGTH, 4));
         break;
     default:
-        puts(" none");
+        puts(" another note");
     }
 }
 

@@ -70,6 +70,18 @@ void put_element(struct data_set *d, uint32_t tag, const char *vr, const uint8_t
     put_bytes(d, value, length);
 }
 
+void put_text(struct data_set *d, uint32_t tag, const char *vr, const char *text) {
+    uint32_t length = (uint32_t)strlen(text);
+    put_header(d, tag, vr, length + length % 2);
+    put_bytes(d, (const uint8_t *)text, length);
+    if (length % 2 != 0) put_number(d, memcmp(vr, "UI", 2) == 0 ? 0 : ' ', 1);
+}
+
+void put_us(struct data_set *d, uint32_t tag, uint16_t value) {
+    put_header(d, tag, "US", 2);
+    put_number(d, value, 2);
+}
+
 /* Closes what was opened: by a delimiter, or by laying its length before it. */
 static void close_part(struct data_set *d, size_t opened, bool loose, uint32_t delimiter) {
     if (loose) {
@@ -118,4 +130,31 @@ struct data_set nest(uint32_t syntax, size_t room, const size_t items[], int lev
     struct data_set d = new_data_set(room, syntax);
     put_nest(&d, items, levels, loose);
     return d;
+}
+
+uint64_t number_at(const uint8_t *p, int width) {
+    uint64_t n = 0;
+    while (width-- > 0) n = n << 8 | p[width];
+    return n;
+}
+
+/* An item has no VR. */
+struct element next_element(const uint8_t *bytes, size_t *at, bool explicit_vr) {
+    const uint8_t *p = bytes + *at;
+    struct element e = {(uint32_t)(number_at(p, 2) << 16 | number_at(p + 2, 2)), p + 8, number_at(p + 4, 4)};
+    if (explicit_vr && e.tag >> 16 != 0xFFFE) {
+        bool twelve = is_long((const char *)p + 4);
+        e.length = twelve ? number_at(p + 8, 4) : number_at(p + 6, 2);
+        e.value = twelve ? p + 12 : p + 8;
+    }
+    *at = (size_t)(e.value - bytes) + e.length;
+    return e;
+}
+
+struct element find_element(const uint8_t *bytes, size_t n, uint32_t tag, bool explicit_vr) {
+    for (size_t at = 0; at < n;) {
+        struct element e = next_element(bytes, &at, explicit_vr);
+        if (e.tag == tag) return e;
+    }
+    return (struct element){tag, NULL, 0};
 }
