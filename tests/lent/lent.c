@@ -1,7 +1,8 @@
 /* Every buffer lent to every call, walked: `lent CALLS EACH TRACE ..`. CALLS starts, opens, closes and takes on any
- * bytes as records; each byte of several records changed in turn; message buffers filled to the brim; then the traces
- * are made, and before each of their calls EACH feeds on damaged copies of what the host holds, and buffers of every
- * length about their limits in each collecting state. calls.h says how each call is judged. */
+ * bytes as records; each byte of several records changed in turn; message buffers filled to the brim; each collecting
+ * state with buffers of every length about their limits, and with CALLS / 100 hostile feeds; then the traces are made,
+ * and before each of their feeds EACH hostile ones on damaged copies of what the host holds. calls.h says how each call
+ * is judged. */
 #include <stdio.h>
 #include <stdlib.h>
 #include <string.h>
@@ -332,14 +333,61 @@ static void begin_session(void)
     free_data_set(&d);
 }
 
+static const uint8_t zeros[PIECE];
+
+/* A fragment of zeros that is not the last one. */
+static void feed_zeros(uint8_t control, size_t size)
+{
+    struct lent piece = lend_fragment(control, zeros, size);
+    expect("a fragment", own_feed(piece.at, piece.length), GATEWAY_WAIT);
+    give_back(&piece);
+}
+
 static void fill_to(size_t end)
 {
-    static const uint8_t zeros[PIECE];
     for (size_t got = 0, size; got < end; got += size) {
         size = end - got < PIECE ? end - got : PIECE;
-        struct lent piece = lend_fragment(0, zeros, size);
-        expect("data", own_feed(piece.at, piece.length), GATEWAY_WAIT);
-        give_back(&piece);
+        feed_zeros(0, size);
+    }
+}
+
+static void reach(int state)
+{
+    open_own(GATEWAY_MESSAGE_LEAST);
+    switch (state) {
+    case 1:
+        feed_zeros(COMMAND_BIT, 600);
+        break;
+    case 2:
+        feed_zeros(COMMAND_BIT, 1025);
+        break;
+    case 3:
+        begin_session();
+        fill_to(1000);
+        break;
+    case 4:
+        begin_session();
+        feed_zeros(0, GATEWAY_MESSAGE_LEAST + 1);
+        break;
+    default:
+        break;
+    }
+    expect("the collecting state", records[GATEWAY_AT_COLLECTING], (uint32_t)state);
+}
+
+/* In each collecting state: each kind of fragment, empty or not, with buffers of all lengths, and hostile feeds. */
+static void walk_states(unsigned long feeds)
+{
+    for (int state = 0; state < STATES; state++) {
+        reach(state);
+        for (uint8_t control = 0; control < 4; control++)
+            for (size_t size = 0; size <= 8; size += 8) {
+                struct lent fragment = lend_fragment(control, zeros, size);
+                walk_lengths(fragment.at, fragment.length);
+                give_back(&fragment);
+            }
+        for (unsigned long i = 0; i < feeds; i++)
+            hostile_feed(zeros, 0);
     }
 }
 
@@ -472,6 +520,7 @@ int main(int argc, char **argv)
     walk_all_records(strtoul(argv[1], NULL, 10));
     fill_to_the_brim(GATEWAY_MESSAGE_LEAST);
     fill_to_the_brim(GATEWAY_MESSAGE_MOST);
+    walk_states(strtoul(argv[1], NULL, 10) / 100);
     for (int i = 3; i < argc; i++)
         walk_trace(argv[i], (uint32_t)strtoul(argv[2], NULL, 10));
     print_counts();
