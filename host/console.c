@@ -3,21 +3,17 @@
 #include <stdio.h>
 #include <string.h>
 
-#define VERIFICATION "1.2.840.10008.1.1"
-#define FILM_SESSION "1.2.840.10008.5.1.1.1"
-#define FILM_BOX "1.2.840.10008.5.1.1.2"
-#define IMAGE_BOX "1.2.840.10008.5.1.1.4"
-
-enum { C_ECHO = 0x0030, N_SET = 0x0120, N_ACTION = 0x0130, N_CREATE = 0x0140, N_DELETE = 0x0150 };
 enum { ROOM = 16384, SIDE = 64, HEADER = 6, GROUP_LENGTH = 12 };
 
-struct console new_console(uint32_t syntax, uint8_t context, unsigned columns, unsigned rows, unsigned pictures)
+struct console new_console(uint32_t syntax, uint8_t context, size_t piece, unsigned columns, unsigned rows,
+                           unsigned pictures)
 {
-    struct console c = { .syntax = syntax, .context = context, .columns = columns, .rows = rows, .pictures = pictures };
+    struct console c = { .syntax = syntax, .context = context, .piece = piece, .columns = columns, .rows = rows };
+    c.pictures = pictures;
     c.command = new_data_set(ROOM, IMPLICIT);
     c.data = new_data_set(ROOM, syntax);
     c.wish = WISH_ECHO;
-    c.whole = true;
+    c.answered = true;
     return c;
 }
 
@@ -27,25 +23,29 @@ void free_console(struct console *c)
     free_data_set(&c->data);
 }
 
-/* The command set of a request, once its data set is there. (0000,0000) counts the bytes behind it. */
-static void ask(struct console *c, uint16_t field, const char *class, const char *instance)
+/* (0000,0000) counts the bytes behind it, so it is written last. */
+void make_command(struct data_set *d, uint16_t field, const char *class, const char *instance, uint16_t number,
+                  bool with_data)
 {
-    struct data_set *d = &c->command;
-    d->n = 0;
-    put_header(d, 0x00000000, "UL", 4);
-    put_number(d, 0, 4);
+    d->n = GROUP_LENGTH;
     put_text(d, field == C_ECHO || field == N_CREATE ? 0x00000002 : 0x00000003, "UI", class);
     put_us(d, 0x00000100, field);
-    put_us(d, 0x00000110, ++c->message);
-    put_us(d, 0x00000800, c->data.n == 0 ? 0x0101 : 0x0001);
+    put_us(d, 0x00000110, number);
+    put_us(d, 0x00000800, with_data ? 0x0001 : 0x0101);
     if (instance != NULL)
         put_text(d, 0x00001001, "UI", instance);
     if (field == N_ACTION)
         put_us(d, 0x00001008, 1);
     size_t whole = d->n;
-    d->n = GROUP_LENGTH - 4;
+    d->n = 0;
+    put_header(d, 0x00000000, "UL", 4);
     put_number(d, (uint32_t)(whole - GROUP_LENGTH), 4);
     d->n = whole;
+}
+
+static void ask(struct console *c, uint16_t field, const char *class, const char *instance)
+{
+    make_command(&c->command, field, class, instance, ++c->message, c->data.n > 0);
 }
 
 static void ask_for_session(struct console *c)
@@ -68,29 +68,34 @@ static void ask_for_film(struct console *c)
     ask(c, N_CREATE, FILM_BOX, NULL);
 }
 
-/* A picture of 64 by 64, all of one grey. */
-static void put_picture(struct data_set *d, unsigned number)
+static void put_picture(struct data_set *d, uint16_t rows, uint16_t columns, uint8_t grey)
 {
-    uint8_t pixels[SIDE * SIDE];
-    memset(pixels, (int)(40 * number), sizeof pixels);
+    uint32_t length = (uint32_t)rows * columns;
     put_us(d, 0x00280002, 1);
     put_text(d, 0x00280004, "CS", "MONOCHROME2");
-    put_us(d, 0x00280010, SIDE);
-    put_us(d, 0x00280011, SIDE);
+    put_us(d, 0x00280010, rows);
+    put_us(d, 0x00280011, columns);
     put_us(d, 0x00280100, 8);
     put_us(d, 0x00280101, 8);
     put_us(d, 0x00280102, 7);
     put_us(d, 0x00280103, 0);
-    put_element(d, 0x7FE00010, "OW", pixels, sizeof pixels);
+    put_header(d, 0x7FE00010, "OW", length);
+    for (uint32_t i = 0; i < length; i++)
+        put_number(d, grey, 1);
+}
+
+void put_box(struct data_set *d, uint16_t position, uint16_t rows, uint16_t columns, uint8_t grey)
+{
+    put_us(d, 0x20200010, position);
+    size_t sequence = open_sequence(d, 0x20200110, false), item = open_item(d, false);
+    put_picture(d, rows, columns, grey);
+    close_item(d, item, false);
+    close_sequence(d, sequence, false);
 }
 
 static void ask_for_picture(struct console *c)
 {
-    put_us(&c->data, 0x20200010, (uint16_t)(c->filled + 1));
-    size_t sequence = open_sequence(&c->data, 0x20200110, false), item = open_item(&c->data, false);
-    put_picture(&c->data, c->filled + 1);
-    close_item(&c->data, item, false);
-    close_sequence(&c->data, sequence, false);
+    put_box(&c->data, (uint16_t)(c->filled + 1), SIDE, SIDE, (uint8_t)(40 * (c->filled + 1)));
     ask(c, N_SET, IMAGE_BOX, c->boxes[c->filled++]);
 }
 
@@ -120,37 +125,38 @@ static enum wish make_request(struct console *c)
     }
 }
 
-/* A fragment of what is left of a set: how many bytes of it were taken. */
-static size_t cut(const struct console *c, const struct data_set *d, size_t sent, bool command, uint8_t *fragment)
+size_t make_fragment(uint8_t *fragment, uint8_t context, bool command, bool last, const uint8_t *bytes, size_t size)
 {
-    size_t left = d->n - sent, most = CONSOLE_FRAGMENT - HEADER, size = left < most ? left : most;
     for (int i = 0; i < 4; i++)
         fragment[i] = (uint8_t)((size + 2) >> 8 * (3 - i));
-    fragment[4] = c->context;
-    fragment[5] = (uint8_t)((command ? 1 : 0) | (size == left ? 2 : 0));
-    memcpy(fragment + HEADER, d->bytes + sent, size);
-    return size;
+    fragment[4] = context;
+    fragment[5] = (uint8_t)((command ? 1 : 0) | (last ? 2 : 0));
+    memcpy(fragment + HEADER, bytes, size);
+    return HEADER + size;
+}
+
+/* A fragment of what is left of a set, of which so many bytes have been sent. */
+static size_t cut(const struct console *c, const struct data_set *d, size_t *sent, bool command, uint8_t *fragment)
+{
+    size_t left = d->n - *sent, most = c->piece - HEADER, size = left < most ? left : most;
+    size_t length = make_fragment(fragment, c->context, command, size == left, d->bytes + *sent, size);
+    *sent += size;
+    return length;
 }
 
 size_t console_sends(struct console *c, uint8_t fragment[CONSOLE_FRAGMENT])
 {
-    size_t size;
-    if (c->whole && c->wish == WISH_NOTHING)
+    if (c->answered && c->wish == WISH_NOTHING)
         return 0;
-    if (c->whole) {
+    if (c->answered) {
         c->wish = make_request(c);
-        c->whole = false;
+        c->answered = false;
     }
-    if (c->command_sent < c->command.n) {
-        size = cut(c, &c->command, c->command_sent, true, fragment);
-        c->command_sent += size;
-    } else if (c->data_sent < c->data.n) {
-        size = cut(c, &c->data, c->data_sent, false, fragment);
-        c->data_sent += size;
-    } else {
-        return 0;
-    }
-    return HEADER + size;
+    if (c->command_sent < c->command.n)
+        return cut(c, &c->command, &c->command_sent, true, fragment);
+    if (c->data_sent < c->data.n)
+        return cut(c, &c->data, &c->data_sent, false, fragment);
+    return 0;
 }
 
 static void keep_uid(char uid[CONSOLE_UID], struct element e)
@@ -176,7 +182,7 @@ void console_hears(struct console *c, uint16_t status, const uint8_t *command, s
                    const uint8_t *data, size_t data_length)
 {
     struct element instance = find_element(command, command_length, 0x00001000, false);
-    c->whole = true;
+    c->answered = true;
     if (status != 0x0000 && status >> 12 != 0xB) {
         c->wish = WISH_NOTHING;
         return;

@@ -21,6 +21,9 @@
 /* As long as the longest data set that is taken: a picture of 1,024 by 1,024 with 8 bits, and some room around it. */
 enum { MESSAGE = 1024 * 1024 + 4096 };
 
+/* The consoles cut their messages into fragments of so many bytes. */
+enum { PIECE = 1500 };
+
 /* The records outlive associations. They and the message buffer are handed back as the last call left them. */
 static uint8_t records[GATEWAY_RECORDS];
 static uint8_t message[MESSAGE];
@@ -236,7 +239,7 @@ static void print_queue(void)
 
 static void job(uint32_t syntax, uint8_t context, unsigned columns, unsigned rows, unsigned pictures)
 {
-    struct console console = new_console(syntax, context, columns, rows, pictures);
+    struct console console = new_console(syntax, context, PIECE, columns, rows, pictures);
     serve(&console);
     free_unnamed(records);
     print_queue();

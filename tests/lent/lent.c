@@ -7,7 +7,7 @@
 #include <stdlib.h>
 #include <string.h>
 
-#include "../../host/data_sets.h"
+#include "../../host/console.h"
 #include "../../host/hex.h"
 #include "../../include/gateway.h"
 #include "../../include/gateway_records.h"
@@ -303,19 +303,6 @@ static void expect(const char *what, uint32_t n, uint32_t due)
     exit(1);
 }
 
-/* N-CREATE of a session, with a data set to come. */
-static struct data_set session_command(void)
-{
-    struct data_set d = new_data_set(1024, IMPLICIT);
-    put_header(&d, 0x00000000, "UL", 4);
-    put_number(&d, 60, 4);
-    put_text(&d, 0x00000002, "UI", "1.2.840.10008.5.1.1.1");
-    put_us(&d, 0x00000100, 0x0140);
-    put_us(&d, 0x00000110, 1);
-    put_us(&d, 0x00000800, 0x0001);
-    return d;
-}
-
 static void open_own(size_t room)
 {
     message_length = room;
@@ -324,9 +311,11 @@ static void open_own(size_t room)
     expect("open", gateway_open(records, sizeof records, message, room, 1, GATEWAY_EXPLICIT), GATEWAY_DONE);
 }
 
+/* N-CREATE of a session, with a data set to come. */
 static void begin_session(void)
 {
-    struct data_set d = session_command();
+    struct data_set d = new_data_set(1024, IMPLICIT);
+    make_command(&d, N_CREATE, FILM_SESSION, NULL, 1, true);
     struct lent command = lend_fragment(COMMAND_BIT | LAST_BIT, d.bytes, d.n);
     expect("a command", own_feed(command.at, command.length), GATEWAY_WAIT);
     give_back(&command);
