@@ -3,7 +3,7 @@ import math
 import sys
 from html import escape
 
-LEFT, WIDTH, HIGH, TOP = 290, 900, 26, 56
+LEFT, RIGHT, WIDTH, HIGH, TOP = 290, 740, 960, 26, 56
 LEAST, MOST = 0.1, 1000
 
 
@@ -33,7 +33,7 @@ def table(rows):
 def across(ratio):
     """Where a ratio stands on the logarithmic scale."""
     part = math.log(min(max(ratio, LEAST), MOST) / LEAST) / math.log(MOST / LEAST)
-    return LEFT + part * (WIDTH - LEFT - 90)
+    return LEFT + part * (RIGHT - LEFT)
 
 
 def bar(row, y):
@@ -44,7 +44,7 @@ def bar(row, y):
     parts = [f'<text x="{LEFT - 8}" y="{y + 16}" text-anchor="end">{escape(what)}</text>',
              f'<rect x="{x:.1f}" y="{y + 5}" width="{max(end - x, 1):.1f}" height="14" fill="{colour}">'
              f'<title>{escape(what)} beside {escape(beside)}: {ratio:.2f}</title></rect>',
-             f'<text x="{max(end, one) + 6:.1f}" y="{y + 16}">{ratio:.2f}</text>']
+             f'<text x="{RIGHT + 12}" y="{y + 16}">{ratio:.2f} of {escape(beside)}</text>']
     if aim:
         at = across(aim)
         parts.append(f'<line x1="{at:.1f}" y1="{y + 2}" x2="{at:.1f}" y2="{y + 22}" stroke="#000" stroke-width="2"/>')

@@ -87,7 +87,7 @@ static bool finish(struct collected *c, uint32_t syntax)
     return read;
 }
 
-/* The length of the fragment at a place, as its header has it, with the header. */
+/* The length of the fragment at a place, its header counted; what the dump has of it, where that is less. */
 static size_t show_fragment(const struct data_set *d, size_t at, unsigned number)
 {
     const uint8_t *p = d->bytes + at;
@@ -100,17 +100,20 @@ static size_t show_fragment(const struct data_set *d, size_t at, unsigned number
         printf("  control bits 2 to 7 are set: refused with 5\n");
     if (n < 2)
         stop("a fragment's length is below 2: refused with 5");
-    if (n + 4 > d->n - at)
-        stop("the last fragment is cut short");
-    return n + 4;
+    if (n + 4 <= d->n - at)
+        return n + 4;
+    printf("  the dump has %zu of them: refused with 5\n", d->n - at - HEADER);
+    return d->n - at;
 }
 
 static bool decode_fragments(const struct data_set *d, uint32_t syntax)
 {
-    struct collected c = { new_data_set(d->n, IMPLICIT), false, true };
+    struct collected c = { new_data_set(d->n + 1, IMPLICIT), false, true };
     bool read = true;
     size_t length;
     unsigned number = 0;
+    if (d->n == 0)
+        stop("the dump is empty");
     for (size_t at = 0; at < d->n; at += length) {
         length = show_fragment(d, at, ++number);
         bool command = d->bytes[at + 5] & 1;
