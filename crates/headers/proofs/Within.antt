@@ -15,7 +15,7 @@ use Rattle.headers.specs.declared.Head.{Head}
 use Rattle.headers.specs.declared.Head.the-variants.{Fault, Value, Nest}
 use Rattle.headers.specs.declared.Close.{Close}
 use Rattle.headers.specs.declared.Close.the-variants.{Here, Not}
-use Rattle.headers.specs.Table.{SQ, undefined}
+use Rattle.tags.specs.Table.{SQ, undefined}
 use Rattle.headers.specs.Header.{tagAt, longAt, sizeAt, vrAt, lengthAt, content, lengthRules, lengthHead, elementRules, headAt, itemRules, itemHeadAt, closeAt}
 
 abbrev pub CloseIn : ℕ → ℕ → Close → Type 0

@@ -11,7 +11,7 @@ use Rattle.headers.specs.declared.Head.{Head}
 use Rattle.headers.specs.declared.Head.the-variants.{Fault, Value, Nest}
 use Rattle.headers.specs.declared.Close.{Close}
 use Rattle.headers.specs.declared.Close.the-variants.{Here, Not}
-use Rattle.headers.specs.Table.{SQ, formOf, undefined, implicitVr, differs}
+use Rattle.tags.specs.Table.{SQ, formOf, undefined, implicitVr, differs}
 
 -- a tag as one number: (gggg,eeee) is 0xggggeeee
 unfoldable pub tagAt : List ℕ → ℕ → ℕ

@@ -1,18 +1,16 @@
 // Headers: what the header of an element or an item says, and where a list or a sequence ends.
-pub mod table;
-
 use octets::u16_at;
 use octets::u32_at;
-use table::SQ;
-use table::form_of;
-use table::implicit_vr;
-use table::vr_differs;
+use tags::SQ;
+use tags::form_of;
+use tags::implicit_vr;
+use tags::vr_differs;
 ghost use mathlib.Core.Path.{_≡_};
 ghost use Prim.Native.Nat.{_+_, _≤_, _<_};
 ghost use mathlib.Core.Bool.{true, false};
 ghost use lib.ListN.{length};
 ghost use Rattle.octets.specs.Octets.{numberAt};
-ghost use Rattle.headers.specs.Table.{formOf};
+ghost use Rattle.tags.specs.Table.{formOf};
 ghost use Rattle.headers.specs.Header.{tagAt, lengthHead, headAt, itemHeadAt, closeAt};
 
 // The bytes of a value.

@@ -11,7 +11,7 @@ use Rattle.uids.specs.Uids.{digits, component, components, isUid, unpadded, mad
 use Rattle.uids.proofs.Made.{made-short, made-uid}
 use Rattle.headers.specs.declared.Inside.{Inside}
 use Rattle.headers.specs.declared.Head.the-variants.{Nest}
-use Rattle.headers.specs.Table.{SQ, UI}
+use Rattle.tags.specs.Table.{SQ, UI}
 use Rattle.headers.specs.Header.{itemHeadAt}
 use Rattle.elements.specs.declared.Read.the-variants.{Past}
 use Rattle.elements.specs.declared.Found.the-variants.{Sequence}

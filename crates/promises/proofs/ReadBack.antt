@@ -17,7 +17,7 @@ use Rattle.octets.proofs.Numbers.{octets-length, number-back}
 use Rattle.uids.specs.Uids.{isUid, unpadded}
 use Rattle.uids.proofs.Padding.{unpadded-padded, unpadded-uid}
 use Rattle.headers.specs.declared.Inside.{Inside}
-use Rattle.headers.specs.Table.{UI, UL, US}
+use Rattle.tags.specs.Table.{UI, UL, US}
 use Rattle.elements.specs.declared.Read.the-variants.{Past}
 use Rattle.elements.specs.declared.Found.the-variants.{Missing}
 use Rattle.elements.specs.Reader.{whole, dataSet}

@@ -9,7 +9,7 @@ use native.Mathlib.Omega.{arith}
 use lib.ListN.{length}
 use Rattle.octets.specs.Octets.{octets}
 use Rattle.octets.proofs.Numbers.{octets-length}
-use Rattle.headers.specs.Table.{SQ, UI, UL, US, formOf, namedVr, differs}
+use Rattle.tags.specs.Table.{SQ, UI, UL, US, formOf, namedVr, differs}
 use Rattle.writing.specs.Tree.{Elements, noElements, value, sequence}
 use Rattle.writing.specs.Bytes.{padded, headerSize, written, writtenItems}
 use Rattle.writing.specs.Fit.{allowed, HeaderFits, Fit, FitItems}

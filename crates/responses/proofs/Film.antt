@@ -10,7 +10,7 @@ use lib.Seq.{take-append-seam}
 use Rattle.octets.specs.Octets.{laid}
 use Rattle.octets.proofs.Laid.{laid-none, laid-then}
 use Rattle.uids.specs.Uids.{made}
-use Rattle.headers.specs.Table.{SQ, UI, formOf}
+use Rattle.tags.specs.Table.{SQ, UI, formOf}
 use Rattle.writing.specs.Bytes.{headerSize, header, itemHeader, element, written}
 use Rattle.writing.proofs.Sizes.{header-length, item-length, element-length}
 use Rattle.writing.proofs.Chain.{laid-next}

@@ -11,7 +11,7 @@ use lib.ListN.{length, length-append}
 use borrow.Author.Tests.{eq-eqb, ne-eqb}
 use Rattle.choice.specs.Pick.{pick, not}
 use Rattle.octets.specs.Octets.{octets, laid}
-use Rattle.headers.specs.Table.{UI, UL, US}
+use Rattle.tags.specs.Table.{UI, UL, US}
 use Rattle.writing.specs.Tree.{Elements}
 use Rattle.writing.specs.Bytes.{headerSize, element, written}
 use Rattle.writing.proofs.Sizes.{element-length, number-length}

@@ -7,7 +7,7 @@ use lib.Dec.{eqb}
 use lib.ListN.{length}
 use Rattle.choice.specs.Pick.{pick}
 use Rattle.octets.specs.Octets.{octets}
-use Rattle.headers.specs.Table.{UI, US}
+use Rattle.tags.specs.Table.{UI, US}
 use Rattle.uids.specs.Uids.{made}
 use Rattle.writing.specs.Tree.{Elements, noElements, value}
 use Rattle.writing.specs.Bytes.{itemHeader, element, written, writtenItems}

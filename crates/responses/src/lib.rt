@@ -1,7 +1,7 @@
 // Responses, the created film's data set and the report, written into lent buffers.
-use headers::table::SQ;
-use headers::table::UI;
 use octets::put_number;
+use tags::SQ;
+use tags::UI;
 use uids::put_made;
 use writing::put_element;
 use writing::put_header;
@@ -15,7 +15,7 @@ ghost use Prim.Native.Nat.{_+_, _*_, _≤_};
 ghost use lib.ListN.{length};
 ghost use Rattle.octets.specs.Octets.{octets, laid};
 ghost use Rattle.uids.specs.Uids.{made};
-ghost use Rattle.headers.specs.Table.{SQ};
+ghost use Rattle.tags.specs.Table.{SQ};
 ghost use Rattle.writing.specs.Bytes.{headerSize, written};
 ghost use Rattle.rules.specs.Lists.{from};
 ghost use Rattle.rules.specs.Responses.{dataSetType, responseTree, filmTree};

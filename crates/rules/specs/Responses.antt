@@ -7,7 +7,7 @@ use lib.Dec.{eqb}
 use lib.ListN.{length}
 use Rattle.choice.specs.Pick.{pick}
 use Rattle.octets.specs.Octets.{octets}
-use Rattle.headers.specs.Table.{UI, UL, US}
+use Rattle.tags.specs.Table.{UI, UL, US}
 use Rattle.writing.specs.Tree.{Elements, noElements, value, sequence, Items, noItems, item}
 use Rattle.writing.specs.Bytes.{written}
 use Rattle.rules.specs.Text.{boxClass}

@@ -14,7 +14,7 @@ use Rattle.strike.specs.Machine.{headerWrong, fragmentIn, skips, reads, gathers
 use Rattle.rules.specs.Calls.{check, started, opened, closed, pictureBytes, entryBytes, taken, reading}
 use Rattle.octets.specs.Octets.{Bytes, numberAt, bigNumberAt, octets, same}
 use Rattle.uids.specs.Uids.{digits, component, components, isUid, unpadded, beginsWith, lastDigits, decimal, made}
-use Rattle.headers.specs.Table.{namedVr, formOf, implicitVr, differs}
+use Rattle.tags.specs.Table.{namedVr, formOf, implicitVr, differs}
 use Rattle.headers.specs.Header.{tagAt, sizeAt, vrAt, lengthAt, vrWrong, lengthHead, headAt, itemHeadAt, closeAt}
 use Rattle.elements.specs.Find.{elementsFrom, itemsOf, findAt, itemsAt}
 use Rattle.elements.specs.Walk.{walk, trail}

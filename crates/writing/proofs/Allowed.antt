@@ -11,7 +11,7 @@ use Rattle.choice.specs.declared.Row.{Row}
 use Rattle.choice.specs.Pick.{pick, both, not}
 use Rattle.choice.specs.Table.{lookup}
 use Rattle.choice.proofs.Picks.{pick-cases, both-true, not-true, clash}
-use Rattle.headers.specs.Table.{SQ, forms, formOf, namedVr, implicitVr, differs, undefined}
+use Rattle.tags.specs.Table.{SQ, forms, formOf, namedVr, implicitVr, differs, undefined}
 use Rattle.writing.specs.Fit.{allowed, limit}
 
 module _ (tag vr : ℕ) (a : allowed tag vr ≡ true) where

@@ -10,7 +10,7 @@ use borrow.Author.Tests.{eq-eqb, ne-eqb}
 use Rattle.octets.specs.Octets.{octets, laid}
 use Rattle.octets.proofs.Laid.{laid-then, laid-none, length-laid}
 use Rattle.octets.proofs.Numbers.{octets-length}
-use Rattle.headers.specs.Table.{SQ, formOf}
+use Rattle.tags.specs.Table.{SQ, formOf}
 use Rattle.writing.specs.Bytes.{padding, padded, tagOctets, vrOctets, plain, header, itemHeader, headed, element, written, writtenItems}
 use Rattle.writing.specs.Tree.{Elements, noElements, value, sequence, Items, item}
 use Rattle.writing.proofs.Sizes.{header-length, item-length, element-length, number-length}

@@ -8,7 +8,7 @@ use native.Mathlib.Omega.{arith}
 use borrow.Author.Needs.{needs}
 use lib.ListN.{length}
 use Rattle.octets.specs.Octets.{octets}
-use Rattle.headers.specs.Table.{IS, SQ, UI, UL, US, formOf, namedVr, differs}
+use Rattle.tags.specs.Table.{IS, SQ, UI, UL, US, formOf, namedVr, differs}
 use Rattle.elements.specs.declared.Read.the-variants.{Past}
 use Rattle.elements.specs.Reader.{dataSet}
 use Rattle.writing.specs.Tree.{Elements, noElements, value, sequence, Items, noItems, item}

@@ -14,7 +14,7 @@ use Rattle.octets.proofs.Laid.{Stands}
 use Rattle.headers.specs.declared.Part.{Part}
 use Rattle.headers.specs.declared.Inside.{Inside}
 use Rattle.headers.specs.declared.Head.{Head}
-use Rattle.headers.specs.Table.{SQ}
+use Rattle.tags.specs.Table.{SQ}
 use Rattle.headers.specs.Header.{tagAt, headAt}
 use Rattle.elements.specs.declared.Read.the-variants.{Past}
 use Rattle.elements.specs.declared.Found.{Found}

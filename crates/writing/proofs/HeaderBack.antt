@@ -14,7 +14,7 @@ use Rattle.octets.specs.Octets.{octets, numberAt}
 use Rattle.octets.proofs.Laid.{Stands, stands-first, stands-second}
 use Rattle.octets.proofs.Numbers.{octets-length, number-back}
 use Rattle.headers.specs.declared.Head.the-variants.{Fault, Value, Nest}
-use Rattle.headers.specs.Table.{SQ, formOf, namedVr, undefined}
+use Rattle.tags.specs.Table.{SQ, formOf, namedVr, undefined}
 use Rattle.headers.specs.Header.{tagAt, sizeAt, vrAt, lengthAt, vrWrong, content, lengthRules, lengthHead, elementRules, headAt, itemRules, itemHeadAt}
 use Rattle.writing.specs.Bytes.{tagOctets, vrOctets, headerSize, plain, header, itemHeader}
 use Rattle.writing.specs.Fit.{allowed, limit, HeaderFits}

@@ -15,7 +15,7 @@ use borrow.Author.Tests.{lt-ltb, le-ltb}
 use Rattle.octets.proofs.Laid.{Stands, stands-first, stands-second}
 use Rattle.headers.specs.declared.Inside.{Inside}
 use Rattle.headers.specs.declared.Close.the-variants.{Here, Not}
-use Rattle.headers.specs.Table.{SQ, formOf, namedVr}
+use Rattle.tags.specs.Table.{SQ, formOf, namedVr}
 use Rattle.headers.specs.Header.{closeAt}
 use Rattle.elements.specs.declared.Read.the-variants.{Past}
 use Rattle.elements.specs.Reader.{itemEnd, sequenceEnd, Mark, listFrom, itemsFrom, elementAt, listAt, itemAt, dataSet}

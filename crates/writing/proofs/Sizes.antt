@@ -12,7 +12,7 @@ use lib.ListN.{length, length-append}
 use Rattle.choice.specs.Pick.{pick, both}
 use Rattle.octets.specs.Octets.{octets}
 use Rattle.octets.proofs.Numbers.{octets-length}
-use Rattle.headers.specs.Table.{SQ, formOf}
+use Rattle.tags.specs.Table.{SQ, formOf}
 use Rattle.writing.specs.Bytes.{padded, tagOctets, vrOctets, headerSize, plain, header, itemHeader, headed, element, written, writtenItems}
 use Rattle.writing.specs.Tree.{Elements, value, sequence, Items, item}
 

@@ -6,7 +6,7 @@ use lib.Dec.{eqb}
 use lib.ListN.{length}
 use Rattle.choice.specs.Pick.{pick, both}
 use Rattle.octets.specs.Octets.{octets}
-use Rattle.headers.specs.Table.{SQ, UI, formOf}
+use Rattle.tags.specs.Table.{SQ, UI, formOf}
 use Rattle.writing.specs.Tree.{Elements, noElements, value, sequence, Items, noItems, item}
 
 abbrev pub padding : ℕ → ℕ

@@ -5,7 +5,7 @@ use mathlib.Core.Bool.{Bool, true, false}
 use lib.Dec.{ltb, eqb}
 use lib.ListN.{length}
 use Rattle.choice.specs.Pick.{pick, both, not}
-use Rattle.headers.specs.Table.{SQ, formOf, namedVr, differs}
+use Rattle.tags.specs.Table.{SQ, formOf, namedVr, differs}
 use Rattle.writing.specs.Tree.{Elements, noElements, value, sequence, Items, noItems, item}
 use Rattle.writing.specs.Bytes.{padded, written, writtenItems}
 

@@ -5,7 +5,7 @@ use mathlib.Core.List.{List, []}
 use lib.Dec.{eqb}
 use lib.ListN.{length}
 use Rattle.choice.specs.Pick.{pick}
-use Rattle.headers.specs.Table.{SQ}
+use Rattle.tags.specs.Table.{SQ}
 use Rattle.headers.specs.declared.Inside.{Inside}
 use Rattle.elements.specs.declared.Found.{Found}
 use Rattle.elements.specs.declared.Found.the-variants.{Missing, Value, Sequence}

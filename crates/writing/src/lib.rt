@@ -1,15 +1,15 @@
 // Writing: elements, and the headers of sequences and items, all of defined length.
-use headers::table::UI;
-use headers::table::UL;
-use headers::table::US;
-use headers::table::form_of;
 use octets::put;
 use octets::put_number;
+use tags::UI;
+use tags::UL;
+use tags::US;
+use tags::form_of;
 ghost use mathlib.Core.Path.{_≡_};
 ghost use Prim.Native.Nat.{_+_, _≤_, _%_};
 ghost use lib.ListN.{length};
 ghost use Rattle.octets.specs.Octets.{octets, laid};
-ghost use Rattle.headers.specs.Table.{US, UL};
+ghost use Rattle.tags.specs.Table.{US, UL};
 ghost use Rattle.writing.specs.Bytes.{padding, tagOctets, vrOctets, plain, header, itemHeader, element};
 
 // The byte that makes the length of a value even.

@@ -1,7 +1,7 @@
 use Prim.Native.Nat.{_-_}
 use denote.Ref.{now}
 use native.Mathlib.Omega.{arith}
-use Rattle.headers.specs.Table.{SQ}
+use Rattle.tags.specs.Table.{SQ}
 use Rattle.writing.proofs.Sizes.{header-length}
 use Rattle.responses.proofs.Film.{film-laid}
 use borrow.Author.Needs.{needs}

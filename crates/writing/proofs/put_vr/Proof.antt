@@ -4,7 +4,7 @@ use denote.Ref.{now}
 use native.Mathlib.Omega.{arith}
 use Rattle.octets.specs.Octets.{octets}
 use Rattle.octets.proofs.Numbers.{octets-length}
-use Rattle.headers.specs.Table.{formOf}
+use Rattle.tags.specs.Table.{formOf}
 use Rattle.writing.proofs.Sizes.{vr-least, vr-long-length, vr-short-length}
 use Rattle.writing.proofs.Chain.{laid-next, laid-next-two, vr-long, vr-short}
 use borrow.Author.Needs.{needs}

@@ -4,10 +4,10 @@ use native.Mathlib.Omega.{arith}
 use borrow.Author.Needs.{needs}
 use lib.ListN.{drop}
 use Rattle.choice.specs.Table.{lookup}
-use Rattle.headers.specs.Table.{forms, formOf}
+use Rattle.tags.specs.Table.{forms, formOf}
 use Rattle.choice.proofs.Rows.{look-here, look-on, look-end}
-use Rattle.headers.proofs.table.form_of.Statement.{statement}
-use Rattle.headers.proofs.table.form_of.Tie as tie
+use Rattle.tags.proofs.form_of.Statement.{statement}
+use Rattle.tags.proofs.form_of.Tie as tie
 
 abbrev Inv-loop : tie.InvT-loop
 Inv-loop vr rows i₀ i = (i ≤ 27) × (formOf vr ≡ lookup vr (drop i forms))

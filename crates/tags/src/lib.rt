@@ -1,7 +1,7 @@
-// The value representations (VR) and the tags that document 01 names.
+// Tags: the value representations (VR) and the tags that document 01 names.
 use choice::Row;
 ghost use mathlib.Core.Path.{_≡_};
-ghost use Rattle.headers.specs.Table.{namedVr, formOf, implicitVr, differs};
+ghost use Rattle.tags.specs.Table.{namedVr, formOf, implicitVr, differs};
 
 // A VR is its two letters as they stand in the bytes: a 16-bit number, little endian.
 pub const AE: usize = 0x4541;

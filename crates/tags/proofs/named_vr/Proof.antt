@@ -4,10 +4,10 @@ use native.Mathlib.Omega.{arith}
 use borrow.Author.Needs.{needs}
 use lib.ListN.{drop}
 use Rattle.choice.specs.Table.{lookup}
-use Rattle.headers.specs.Table.{named, namedVr}
+use Rattle.tags.specs.Table.{named, namedVr}
 use Rattle.choice.proofs.Rows.{look-here, look-on, look-end}
-use Rattle.headers.proofs.table.named_vr.Statement.{statement}
-use Rattle.headers.proofs.table.named_vr.Tie as tie
+use Rattle.tags.proofs.named_vr.Statement.{statement}
+use Rattle.tags.proofs.named_vr.Tie as tie
 
 abbrev Inv-loop : tie.InvT-loop
 Inv-loop tag rows i₀ i = (i ≤ 35) × (namedVr tag ≡ lookup tag (drop i named))
