@@ -428,7 +428,7 @@ fn sequence_severity(k: Core, d: &[u8], explicit: bool, inside: Inside) -> u8
     requires { ⌜ (k .numbers .used ≤ 40) × (inside .from ≤ inside .stop) × (inside .stop ≤ length (now d)) ⌝ }
     ensures { λ r. ⌜ r ≡ worst (referenceStandings k (listingOf (now (d .entry)) explicit) (itemsAt (now (d .entry)) explicit 3 inside)) ⌝ }
 {
-    match elements::items_in(d, explicit, 3, inside) {
+    match finding::items_in(d, explicit, 3, inside) {
         Items::Empty => 2,
         Items::One(item) => item_severity(k, d, explicit, item),
         Items::Several(_) => 1,
@@ -444,7 +444,7 @@ fn reference_severity(k: Core, d: &[u8], explicit: bool) -> u8
         stop: d.len(),
         loose: false,
     };
-    match elements::find(d, explicit, 4, whole, REFERENCE) {
+    match finding::find(d, explicit, 4, whole, REFERENCE) {
         Found::Missing => 3,
         Found::Value(_) => 1,
         Found::Sequence(inside) => sequence_severity(k, d, explicit, inside),

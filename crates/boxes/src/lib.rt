@@ -232,10 +232,10 @@ pub fn image_in(d: &[u8], explicit: bool) -> Image
     ensures { λ r. ⌜ (imageMeant (now (d .entry)) explicit r ≡ imageIn (listingOf (now (d .entry)) explicit)) × ImageWithin (length (now (d .entry))) r ⌝ }
 {
     let whole = standings::whole(d);
-    match elements::find(d, explicit, 4, whole, IMAGE_SEQUENCE) {
+    match finding::find(d, explicit, 4, whole, IMAGE_SEQUENCE) {
         Found::Missing => Image::Keeps,
         Found::Value(_) => Image::TooMany,
-        Found::Sequence(inside) => image_of(elements::items_in(d, explicit, 3, inside)),
+        Found::Sequence(inside) => image_of(finding::items_in(d, explicit, 3, inside)),
     }
 }
 

@@ -47,7 +47,7 @@ fn place(c: &[u8], tag: usize) -> Part
         stop: c.len(),
         loose: false,
     };
-    match elements::find(c, false, 4, whole, tag) {
+    match finding::find(c, false, 4, whole, tag) {
         Found::Missing => Part { from: 0, stop: 0 },
         Found::Value(part) => part,
         Found::Sequence(_) => Part { from: 0, stop: 0 },

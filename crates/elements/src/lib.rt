@@ -11,12 +11,11 @@ ghost use mathlib.Core.Path.{_≡_};
 ghost use Prim.Native.Nat.{_≤_};
 ghost use lib.ListN.{length};
 ghost use Rattle.elements.specs.Reader.{elementAt, itemAt, listAt, dataSet};
-ghost use Rattle.elements.specs.Find.{found, only, itemsOf, findAt, itemsAt};
 
 // The delimiters that close an item's list and a sequence of undefined length.
-const ITEM_END: usize = 0xFFFE_E00D;
+pub const ITEM_END: usize = 0xFFFE_E00D;
 
-const SEQUENCE_END: usize = 0xFFFE_E0DD;
+pub const SEQUENCE_END: usize = 0xFFFE_E0DD;
 
 // The place after what was read, or the number of the refusal.
 pub enum Read {
@@ -94,7 +93,7 @@ pub fn element(s: &[u8], explicit: bool, room: usize, end: usize, at: usize, flo
 }
 
 // One item of a sequence.
-fn item(s: &[u8], explicit: bool, room: usize, end: usize, at: usize) -> Read
+pub fn item(s: &[u8], explicit: bool, room: usize, end: usize, at: usize) -> Read
     requires { ⌜ (at ≤ end) × (end ≤ length (now s)) ⌝ }
     ensures { λ r. ⌜ r ≡ itemAt (now (s .entry)) explicit room end at ⌝ }
 {
@@ -115,91 +114,4 @@ pub fn data_set(s: &[u8], explicit: bool) -> Read
         loose: false,
     };
     list(s, explicit, 4, whole)
-}
-
-fn found_of(head: Head) -> Found
-    ensures { λ r. ⌜ r ≡ found head ⌝ }
-{
-    match head {
-        Head::Fault(_) => Found::Missing,
-        Head::Value(part) => Found::Value(part),
-        Head::Nest(inside) => Found::Sequence(inside),
-    }
-}
-
-// What a list holds under a tag.
-pub fn find(s: &[u8], explicit: bool, room: usize, inside: Inside, tag: usize) -> Found
-    requires { ⌜ (inside .from ≤ inside .stop) × (inside .stop ≤ length (now s)) ⌝ }
-    ensures { λ r. ⌜ r ≡ findAt (now (s .entry)) explicit room inside tag ⌝ }
-{
-    let mut p = inside.from;
-    let mut floor = 0;
-    loop {
-        let close = closing(s, ITEM_END, inside, p);
-        if let Close::Here(_) = close {
-            return Found::Missing;
-        }
-        match element(s, explicit, room, inside.stop, p, floor) {
-            Read::Past(q) => {
-                let t = tag_at(s, p);
-                if t == tag {
-                    return found_of(element_head(s, explicit, inside.stop, p, floor));
-                }
-                floor = t + 1;
-                p = q;
-            }
-            Read::Refused(_) => {
-                return Found::Missing;
-            }
-        }
-    }
-}
-
-fn only_list(head: Head) -> Items
-    ensures { λ r. ⌜ r ≡ only head ⌝ }
-{
-    match head {
-        Head::Fault(_) => Items::Empty,
-        Head::Value(_) => Items::Empty,
-        Head::Nest(inside) => Items::One(inside),
-    }
-}
-
-// How many items a sequence has.
-fn count_items(s: &[u8], explicit: bool, room: usize, inside: Inside) -> usize
-    requires { ⌜ (inside .from ≤ inside .stop) × (inside .stop ≤ length (now s)) ⌝ }
-    ensures { λ r. ⌜ r ≡ length (itemsOf (now (s .entry)) explicit room inside (inside .from)) ⌝ }
-{
-    let mut p = inside.from;
-    let mut count = 0;
-    loop {
-        let close = closing(s, SEQUENCE_END, inside, p);
-        if let Close::Here(_) = close {
-            return count;
-        }
-        match item(s, explicit, room, inside.stop, p) {
-            Read::Past(q) => {
-                count += 1;
-                p = q;
-            }
-            Read::Refused(_) => {
-                return count;
-            }
-        }
-    }
-}
-
-// The items of a sequence.
-pub fn items_in(s: &[u8], explicit: bool, room: usize, inside: Inside) -> Items
-    requires { ⌜ (inside .from ≤ inside .stop) × (inside .stop ≤ length (now s)) ⌝ }
-    ensures { λ r. ⌜ r ≡ itemsAt (now (s .entry)) explicit room inside ⌝ }
-{
-    let count = count_items(s, explicit, room, inside);
-    if count == 0 {
-        return Items::Empty;
-    }
-    if count == 1 {
-        return only_list(item_head(s, inside.stop, inside.from));
-    }
-    Items::Several(count)
 }

@@ -50,7 +50,7 @@ pub fn look(d: &[u8], explicit: bool, room: usize, inside: Inside, tag: usize) -
     requires { ⌜ (inside .from ≤ inside .stop) × (inside .stop ≤ length (now d)) ⌝ }
     ensures { λ r. ⌜ (r .kind ≡ kindOf (findAt (now (d .entry)) explicit room inside tag)) × (r .value ≡ placed (findAt (now (d .entry)) explicit room inside tag)) × (r .value .from ≤ r .value .stop) × (r .value .stop ≤ length (now (d .entry))) ⌝ }
 {
-    seen(elements::find(d, explicit, room, inside, tag))
+    seen(finding::find(d, explicit, room, inside, tag))
 }
 
 pub fn value(d: &[u8], part: Part) -> &[u8]

@@ -122,7 +122,7 @@ fn print_value(s: &[u8], value: Part) {
 
 // How many items a sequence inside an item has.
 fn print_inner_items(s: &[u8], explicit: bool, sequence: Inside) {
-    match elements::items_in(s, explicit, 2, kept(s, sequence)) {
+    match finding::items_in(s, explicit, 2, kept(s, sequence)) {
         Items::Empty => print_count(0),
         Items::One(_) => print_count(1),
         Items::Several(n) => print_count(n),
@@ -131,7 +131,7 @@ fn print_inner_items(s: &[u8], explicit: bool, sequence: Inside) {
 
 // What the only item of the sequence `over` holds under a tag.
 fn print_inner(s: &[u8], explicit: bool, over: usize, item: Inside, tag: usize) {
-    match elements::find(s, explicit, 3, kept(s, item), tag) {
+    match finding::find(s, explicit, 3, kept(s, item), tag) {
         Found::Missing => {}
         Found::Value(value) => {
             print_tag(over, tag);
@@ -155,7 +155,7 @@ fn print_item(s: &[u8], explicit: bool, over: usize, item: Inside) {
 
 // How many items a sequence has, and what the only one holds.
 fn print_items(s: &[u8], explicit: bool, tag: usize, sequence: Inside) {
-    match elements::items_in(s, explicit, 3, kept(s, sequence)) {
+    match finding::items_in(s, explicit, 3, kept(s, sequence)) {
         Items::Empty => print_count(0),
         Items::One(item) => {
             print_count(1);
@@ -172,7 +172,7 @@ fn print_outer(s: &[u8], explicit: bool, tag: usize) {
         stop: s.len(),
         loose: false,
     };
-    match elements::find(s, explicit, 4, whole, tag) {
+    match finding::find(s, explicit, 4, whole, tag) {
         Found::Missing => {}
         Found::Value(value) => {
             print_tag(0, tag);

@@ -1,6 +1,6 @@
 use borrow.Author.Needs.{needs}
-use Rattle.elements.proofs.only_list.Statement.{statement}
-use Rattle.elements.proofs.only_list.Tie as tie
+use Rattle.finding.proofs.only_list.Statement.{statement}
+use Rattle.finding.proofs.only_list.Tie as tie
 
 returns-3 : tie.Need-returns-3
 returns-3 c = rw (c .before .head .given .1)

@@ -1,6 +1,6 @@
 use borrow.Author.Needs.{needs}
-use Rattle.elements.proofs.found_of.Statement.{statement}
-use Rattle.elements.proofs.found_of.Tie as tie
+use Rattle.finding.proofs.found_of.Statement.{statement}
+use Rattle.finding.proofs.found_of.Tie as tie
 
 returns-2 : tie.Need-returns-2
 returns-2 c = rw (c .before .head .given .1)

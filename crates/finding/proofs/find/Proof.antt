@@ -1,11 +1,11 @@
 use Prim.Native.Nat.{_-_, _≤_}
 use native.Mathlib.Omega.{arith}
 use mathlib.Core.Path.{_≡_, refl, sym, ap, _∙_}
 use Rattle.elements.specs.Find.{found, among, elementsFrom, findAt}
 use Rattle.elements.proofs.Laws.{element-past, find-done, find-refused, find-here, find-more}
 use borrow.Author.Needs.{needs}
-use Rattle.elements.proofs.find.Statement.{statement}
-use Rattle.elements.proofs.find.Tie as tie
+use Rattle.finding.proofs.find.Statement.{statement}
+use Rattle.finding.proofs.find.Tie as tie
 
 abbrev Inv-loop : tie.InvT-loop
 Inv-loop s explicit room inside tag p₀ floor₀ p floor =

@@ -3,11 +3,11 @@ use native.Mathlib.Omega.{arith}
 use mathlib.Core.Path.{_≡_, refl, sym, ap, _∙_}
 use mathlib.Core.List.{List, []}
 use lib.ListN.{length}
 use Rattle.elements.specs.Find.{itemsOf}
 use Rattle.elements.proofs.Laws.{item-past, items-of-done, items-of-refused, items-of-more}
 use borrow.Author.Needs.{needs}
-use Rattle.elements.proofs.count_items.Statement.{statement}
-use Rattle.elements.proofs.count_items.Tie as tie
+use Rattle.finding.proofs.count_items.Statement.{statement}
+use Rattle.finding.proofs.count_items.Tie as tie
 
 -- a count is at most the place, so that it fits
 abbrev Inv-loop : tie.InvT-loop

@@ -1,9 +1,9 @@
 use mathlib.Core.Path.{sym, ap, _∙_}
 use Rattle.elements.specs.Find.{only}
 use Rattle.elements.proofs.Laws.{items-none, items-one, items-several}
 use borrow.Author.Needs.{needs}
-use Rattle.elements.proofs.items_in.Statement.{statement}
-use Rattle.elements.proofs.items_in.Tie as tie
+use Rattle.finding.proofs.items_in.Statement.{statement}
+use Rattle.finding.proofs.items_in.Tie as tie
 
 returns : tie.Need-returns
 returns c = sym (items-none _ _ _ _ (sym (c .before .count-items .ensures) ∙ c .if1 .taken))
