@@ -1,13 +1,13 @@
 // Responses, the created film's data set and the report, written into lent buffers.
+use headings::put_header;
+use headings::put_item;
 use octets::put_number;
+use putting::put_element;
+use putting::put_ul;
+use putting::put_us;
 use tags::SQ;
 use tags::UI;
 use uids::put_made;
-use writing::put_element;
-use writing::put_header;
-use writing::put_item;
-use writing::put_ul;
-use writing::put_us;
 ghost use mathlib.Core.Bool.{false};
 ghost use mathlib.Core.List.{map};
 ghost use mathlib.Core.Path.{_≡_};

@@ -1,6 +1,6 @@
 use borrow.Author.Tests.{eq-eqb, ne-eqb}
-use Rattle.writing.proofs.pad.Statement.{statement}
-use Rattle.writing.proofs.pad.Tie as tie
+use Rattle.putting.proofs.pad.Statement.{statement}
+use Rattle.putting.proofs.pad.Tie as tie
 
 returns : tie.Need-returns
 returns c = simp (eq-eqb _ _ (c .if1 .taken))

@@ -3,11 +3,11 @@ use denote.Ref.{now}
 use native.Mathlib.Omega.{arith}
 use Rattle.octets.specs.Octets.{octets}
 use Rattle.octets.proofs.Numbers.{octets-length}
 use Rattle.writing.specs.Bytes.{tagOctets}
 use Rattle.writing.proofs.Chain.{laid-next}
 use borrow.Author.Needs.{needs}
-use Rattle.writing.proofs.put_tag.Statement.{statement}
-use Rattle.writing.proofs.put_tag.Tie as tie
+use Rattle.headings.proofs.put_tag.Statement.{statement}
+use Rattle.headings.proofs.put_tag.Tie as tie
 
 returns : tie.Need-returns
 unfolding tagOctets

@@ -5,11 +5,11 @@ use native.Mathlib.Omega.{arith}
 use Rattle.octets.specs.Octets.{octets}
 use Rattle.octets.proofs.Numbers.{octets-length}
 use Rattle.tags.specs.Table.{formOf}
 use Rattle.writing.proofs.Sizes.{vr-least, vr-long-length, vr-short-length}
 use Rattle.writing.proofs.Chain.{laid-next, laid-next-two, vr-long, vr-short}
 use borrow.Author.Needs.{needs}
-use Rattle.writing.proofs.put_vr.Statement.{statement}
-use Rattle.writing.proofs.put_vr.Tie as tie
+use Rattle.headings.proofs.put_vr.Statement.{statement}
+use Rattle.headings.proofs.put_vr.Tie as tie
 
 put-number-requires : tie.Need-put-number-requires
 put-number-requires c κs = let a = c .before .before .args in omega (arith, vr-least (a .vr) (a .size))

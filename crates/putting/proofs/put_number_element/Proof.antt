@@ -1,11 +1,11 @@
 use denote.Ref.{now}
 use native.Mathlib.Omega.{arith}
 use Rattle.octets.specs.Octets.{octets}
 use Rattle.writing.specs.Bytes.{header}
 use Rattle.writing.proofs.Chain.{laid-next, element-number, number-room}
 use borrow.Author.Needs.{needs}
-use Rattle.writing.proofs.put_number_element.Statement.{statement}
-use Rattle.writing.proofs.put_number_element.Tie as tie
+use Rattle.putting.proofs.put_number_element.Statement.{statement}
+use Rattle.putting.proofs.put_number_element.Tie as tie
 
 put-header-requires : tie.Need-put-header-requires
 put-header-requires c κs = let a = c .before .before .args in omega (arith, number-room (a .explicit) (a .tag) (a .vr) (a .width) (a .x) (c .before .before .pre .1))

@@ -3,12 +3,12 @@ use mathlib.Core.Path.{ap, _∙_}
 use denote.Ref.{now}
 use native.Mathlib.Omega.{arith}
 use lib.ListN.{length, length-append}
 use Rattle.writing.specs.Bytes.{tagOctets, vrOctets}
 use Rattle.writing.proofs.Sizes.{tag-length, plain-length}
 use Rattle.writing.proofs.Chain.{laid-next, header-explicit, header-implicit}
 use borrow.Author.Needs.{needs}
-use Rattle.writing.proofs.put_header.Statement.{statement}
-use Rattle.writing.proofs.put_header.Tie as tie
+use Rattle.headings.proofs.put_header.Statement.{statement}
+use Rattle.headings.proofs.put_header.Tie as tie
 
 put-tag-requires : tie.Need-put-tag-requires
 put-tag-requires c κs = let a = c .before .before .before .args in

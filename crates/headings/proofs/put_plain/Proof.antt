@@ -2,12 +2,12 @@ use Prim.Native.Nat.{_+_}
 use denote.Ref.{now}
 use native.Mathlib.Omega.{arith}
 use Rattle.octets.specs.Octets.{octets}
 use Rattle.writing.specs.Bytes.{tagOctets, plain}
 use Rattle.writing.proofs.Sizes.{tag-length, plain-length}
 use Rattle.writing.proofs.Chain.{laid-next}
 use borrow.Author.Needs.{needs}
-use Rattle.writing.proofs.put_plain.Statement.{statement}
-use Rattle.writing.proofs.put_plain.Tie as tie
+use Rattle.headings.proofs.put_plain.Statement.{statement}
+use Rattle.headings.proofs.put_plain.Tie as tie
 
 returns : tie.Need-returns
 unfolding plain

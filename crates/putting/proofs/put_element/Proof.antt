@@ -3,11 +3,11 @@ use denote.Ref.{now}
 use native.Mathlib.Omega.{arith}
 use lib.ListN.{length}
 use Rattle.octets.specs.Octets.{octets}
 use Rattle.writing.specs.Bytes.{padding, header}
 use Rattle.writing.proofs.Chain.{laid-next-two, element-parts, element-room}
 use borrow.Author.Needs.{needs}
-use Rattle.writing.proofs.put_element.Statement.{statement}
-use Rattle.writing.proofs.put_element.Tie as tie
+use Rattle.putting.proofs.put_element.Statement.{statement}
+use Rattle.putting.proofs.put_element.Tie as tie
 
 put-header-requires : tie.Need-put-header-requires
 put-header-requires c κs = let a = c .before .before .before .args in omega (arith, element-room (a .explicit) (a .tag) (a .vr) (now (a .bytes)))
