@@ -128,7 +128,7 @@ fn action_broken(k: Core, c: &[u8], action: Action) -> u16
     let class = action.class;
     let instance = action.instance;
     let kind = action.kind;
-    let target = instances::target_broken(k, c, class, instance);
+    let target = checks::target_broken(k, c, class, instance);
     if target != 0 {
         return target;
     }
@@ -167,7 +167,7 @@ pub fn deleted(k: Core, c: &[u8], message: u16, target: Target) -> Verdict
     };
     let class = target.class;
     let instance = target.instance;
-    let broken = instances::target_broken(k, c, class, instance);
+    let broken = checks::target_broken(k, c, class, instance);
     if broken != 0 {
         return verdicts::failed(k, c, request, broken);
     }

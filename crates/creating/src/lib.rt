@@ -286,7 +286,7 @@ pub fn created(k: Core, c: &[u8], d: &[u8], message: u16, creation: Creation) ->
         operation: Operation::Create(creation),
     };
     let sent = creation.sent;
-    let broken = instances::create_broken(k, c, sent);
+    let broken = checks::create_broken(k, c, sent);
     if broken != 0 {
         return verdicts::failed(k, c, request, broken);
     }

@@ -33,7 +33,7 @@ pub fn decided(k: Core, c: &[u8], came: Data, d: &[u8], request: Request) -> Ver
     ensures { λ r. ⌜ (meant k (now (c .entry)) request r ≡ decideRequest k (now (c .entry)) (dataMeant came (now (d .entry))) request) × (r .done ≡ false → r .core ≡ k) × BoxesFit (r .boxes) ⌝ }
 {
     let operation = request.operation;
-    let broken = instances::general_broken(k, c, came, d, operation);
+    let broken = checks::general_broken(k, c, came, d, operation);
     if broken != 0 {
         return verdicts::failed(k, c, request, broken);
     }

@@ -237,7 +237,7 @@ pub fn set(k: Core, c: &[u8], d: &[u8], message: u16, target: Target) -> Verdict
         message,
         operation: Operation::Set(target),
     };
-    let refused = instances::target_broken(k, c, class, instance);
+    let refused = checks::target_broken(k, c, class, instance);
     if refused != 0 {
         return verdicts::failed(k, c, request, refused);
     }

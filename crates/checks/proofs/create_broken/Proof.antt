@@ -1,8 +1,8 @@
 use borrow.Author.Tests.{eq-eqb, ne-eqb, not-true, not-false}
 use Rattle.rules.specs.Checks.{createRules}
 use borrow.Author.Needs.{needs}
-use Rattle.instances.proofs.create_broken.Statement.{statement}
-use Rattle.instances.proofs.create_broken.Tie as tie
+use Rattle.checks.proofs.create_broken.Statement.{statement}
+use Rattle.checks.proofs.create_broken.Tie as tie
 
 returns : tie.Need-returns
 unfolding createRules

@@ -1,8 +1,8 @@
 use borrow.Author.Tests.{not-true, not-false}
 use Rattle.rules.specs.Checks.{targetRules}
 use borrow.Author.Needs.{needs}
-use Rattle.instances.proofs.target_broken.Statement.{statement}
-use Rattle.instances.proofs.target_broken.Tie as tie
+use Rattle.checks.proofs.target_broken.Statement.{statement}
+use Rattle.checks.proofs.target_broken.Tie as tie
 
 returns : tie.Need-returns
 unfolding targetRules

@@ -1,9 +1,9 @@
 use Rattle.elements.specs.Reader.{dataSet}
 use Rattle.rules.specs.Commands.{isRead}
-use Rattle.instances.proofs.Classes.{not-is}
+use Rattle.checks.proofs.Asked.{not-is}
 use borrow.Author.Needs.{needs}
-use Rattle.instances.proofs.is_unreadable.Statement.{statement}
-use Rattle.instances.proofs.is_unreadable.Tie as tie
+use Rattle.checks.proofs.is_unreadable.Statement.{statement}
+use Rattle.checks.proofs.is_unreadable.Tie as tie
 
 returns-2 : tie.Need-returns-2
 returns-2 c = let a = c .before .before .before .before .before .args in

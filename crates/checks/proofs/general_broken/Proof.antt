@@ -2,10 +2,10 @@ use mathlib.Core.Path.{ap, _∙_}
 use borrow.Author.Tests.{not-true, not-false}
 use Rattle.rules.specs.Commands.{uidAt}
 use Rattle.rules.specs.Checks.{classOf, generalRules}
-use Rattle.instances.proofs.Classes.{class-in}
+use Rattle.checks.proofs.Asked.{class-in}
 use borrow.Author.Needs.{needs}
-use Rattle.instances.proofs.general_broken.Statement.{statement}
-use Rattle.instances.proofs.general_broken.Tie as tie
+use Rattle.checks.proofs.general_broken.Statement.{statement}
+use Rattle.checks.proofs.general_broken.Tie as tie
 
 uid-at-requires : tie.Need-uid-at-requires
 uid-at-requires c κs = rw (c .class-part .ensures) (class-in _ (c .before .before .before .args .operation) (c .before .before .before .pre))

@@ -1,0 +1,164 @@
+// Checks: checks 2 to 6 of a request.
+use headers::Part;
+use instances::Class;
+use instances::Data;
+use instances::Whom;
+use rules::Core;
+use rules::Operation;
+ghost use mathlib.Core.Path.{_≡_};
+ghost use mathlib.Core.Bool.{true};
+ghost use lib.ListN.{length};
+ghost use Rattle.choice.specs.Rules.{firstBroken};
+ghost use Rattle.rules.specs.Checks.{sessions, films, boxes, isUnknown, isTooLong, isUnreadable, isNobody, ofClass, generalRules, createRules, targetRules};
+ghost use Rattle.rules.specs.Sound.{coreSound};
+ghost use Rattle.commands.specs.Within.{PartIn, OperationIn};
+ghost use Rattle.instances.specs.Meant.{classMeant, instanceMeant, dataMeant};
+
+fn is_nobody(whom: Whom) -> bool
+    ensures { λ r. ⌜ r ≡ isNobody (instanceMeant whom) ⌝ }
+{
+    match whom {
+        Whom::Nobody => true,
+        Whom::Session => false,
+        Whom::Film(_) => false,
+        Whom::ImageBox { film: _, place: _ } => false,
+    }
+}
+
+// Check 6: the number of the rule that a UID sent with N-CREATE breaks, 0 where it breaks none.
+pub fn create_broken(k: Core, c: &[u8], sent: Part) -> u16
+    requires { ⌜ (coreSound k ≡ true) × PartIn (length (now c)) sent ⌝ }
+    ensures { λ r. ⌜ r ≡ firstBroken (createRules k (now (c .entry)) sent) ⌝ }
+{
+    if sent.stop - sent.from == 0 {
+        return 0;
+    }
+    let uid = instances::uid_at(c, sent);
+    if !uids::is_uid(uid) {
+        return 0x0117;
+    }
+    let numbers = k.numbers;
+    if instances::is_rooted(numbers, uid) {
+        return 0x0117;
+    }
+    if !is_nobody(instances::named(k, uid)) {
+        return 0x0111;
+    }
+    0
+}
+
+fn is_a_session(whom: Whom) -> bool
+    ensures { λ r. ⌜ r ≡ ofClass sessions (instanceMeant whom) ⌝ }
+{
+    match whom {
+        Whom::Nobody => false,
+        Whom::Session => true,
+        Whom::Film(_) => false,
+        Whom::ImageBox { film: _, place: _ } => false,
+    }
+}
+
+fn is_a_film(whom: Whom) -> bool
+    ensures { λ r. ⌜ r ≡ ofClass films (instanceMeant whom) ⌝ }
+{
+    match whom {
+        Whom::Nobody => false,
+        Whom::Session => false,
+        Whom::Film(_) => true,
+        Whom::ImageBox { film: _, place: _ } => false,
+    }
+}
+
+fn is_a_box(whom: Whom) -> bool
+    ensures { λ r. ⌜ r ≡ ofClass boxes (instanceMeant whom) ⌝ }
+{
+    match whom {
+        Whom::Nobody => false,
+        Whom::Session => false,
+        Whom::Film(_) => false,
+        Whom::ImageBox { film: _, place: _ } => true,
+    }
+}
+
+// Whether an instance is of a class.
+fn of_class(class: Class, whom: Whom) -> bool
+    ensures { λ r. ⌜ r ≡ ofClass (classMeant class) (instanceMeant whom) ⌝ }
+{
+    match class {
+        Class::Verification => false,
+        Class::Sessions => is_a_session(whom),
+        Class::Films => is_a_film(whom),
+        Class::Boxes => is_a_box(whom),
+        Class::Unknown => false,
+    }
+}
+
+// Check 6: the number of the rule that the instance asked for breaks, 0 where it breaks none.
+pub fn target_broken(k: Core, c: &[u8], class: Part, instance: Part) -> u16
+    requires { ⌜ (coreSound k ≡ true) × PartIn (length (now c)) class × PartIn (length (now c)) instance ⌝ }
+    ensures { λ r. ⌜ r ≡ firstBroken (targetRules k (now (c .entry)) class instance) ⌝ }
+{
+    let whom = instances::named(k, instances::uid_at(c, instance));
+    if is_nobody(whom) {
+        return 0x0112;
+    }
+    let asked = instances::class_of(instances::uid_at(c, class));
+    if !of_class(asked, whom) {
+        return 0x0119;
+    }
+    0
+}
+
+fn is_unknown(class: Class) -> bool
+    ensures { λ r. ⌜ r ≡ isUnknown (classMeant class) ⌝ }
+{
+    match class {
+        Class::Verification => false,
+        Class::Sessions => false,
+        Class::Films => false,
+        Class::Boxes => false,
+        Class::Unknown => true,
+    }
+}
+
+fn is_too_long(came: Data, d: &[u8]) -> bool
+    ensures { λ r. ⌜ r ≡ isTooLong (dataMeant came (now (d .entry))) ⌝ }
+{
+    match came {
+        Data::Absent => false,
+        Data::Whole => false,
+        Data::TooLong => true,
+    }
+}
+
+fn is_unreadable(explicit: bool, came: Data, d: &[u8]) -> bool
+    ensures { λ r. ⌜ r ≡ isUnreadable explicit (dataMeant came (now (d .entry))) ⌝ }
+{
+    match came {
+        Data::Absent => false,
+        Data::Whole => !commands::is_read(elements::data_set(d, explicit)),
+        Data::TooLong => false,
+    }
+}
+
+// Checks 2 to 5: the number of the first rule that a request breaks, 0 where it breaks none.
+pub fn general_broken(k: Core, c: &[u8], came: Data, d: &[u8], operation: Operation) -> u16
+    requires { ⌜ OperationIn (length (now c)) operation ⌝ }
+    ensures { λ r. ⌜ r ≡ firstBroken (generalRules k (now (c .entry)) (dataMeant came (now (d .entry))) operation) ⌝ }
+{
+    let class = instances::class_of(instances::uid_at(c, instances::class_part(operation)));
+    if is_unknown(class) {
+        return 0x0118;
+    }
+    if !instances::offers(class, operation) {
+        return 0x0211;
+    }
+    if is_too_long(came, d) {
+        return 0x0213;
+    }
+    let opened = k.opened;
+    if is_unreadable(opened.syntax == 2, came, d) {
+        return 0x0110;
+    }
+    0
+}
