@@ -75,7 +75,7 @@ fn is_given(d: &[u8], explicit: bool, tag: usize) -> bool
 {
     let at = look(d, explicit, tag);
     let v = standings::value(d, at.value);
-    standings::is_given(at.kind, values::is_blank(v))
+    standings::is_given(at.kind, texts::is_blank(v))
 }
 
 fn copies_severity(d: &[u8], explicit: bool) -> u8
@@ -83,7 +83,7 @@ fn copies_severity(d: &[u8], explicit: bool) -> u8
 {
     let at = look(d, explicit, COPIES);
     let v = standings::value(d, at.value);
-    standings::optional_severity(at.kind, values::is_blank(v), values::count_in(v, 99) != 0)
+    standings::optional_severity(at.kind, texts::is_blank(v), texts::count_in(v, 99) != 0)
 }
 
 fn priority_severity(d: &[u8], explicit: bool) -> u8
@@ -91,7 +91,7 @@ fn priority_severity(d: &[u8], explicit: bool) -> u8
 {
     let at = look(d, explicit, PRIORITY);
     let v = standings::value(d, at.value);
-    standings::optional_severity(at.kind, values::is_blank(v), values::priority_in(v) < 3)
+    standings::optional_severity(at.kind, texts::is_blank(v), values::priority_in(v) < 3)
 }
 
 fn medium_severity(d: &[u8], explicit: bool) -> u8
@@ -99,7 +99,7 @@ fn medium_severity(d: &[u8], explicit: bool) -> u8
 {
     let at = look(d, explicit, MEDIUM);
     let v = standings::value(d, at.value);
-    standings::optional_severity(at.kind, values::is_blank(v), values::medium_in(v) < 3)
+    standings::optional_severity(at.kind, texts::is_blank(v), values::medium_in(v) < 3)
 }
 
 fn destination_severity(d: &[u8], explicit: bool) -> u8
@@ -107,7 +107,7 @@ fn destination_severity(d: &[u8], explicit: bool) -> u8
 {
     let at = look(d, explicit, DESTINATION);
     let v = standings::value(d, at.value);
-    standings::optional_severity(at.kind, values::is_blank(v), values::destination_in(v) < 2)
+    standings::optional_severity(at.kind, texts::is_blank(v), values::destination_in(v) < 2)
 }
 
 fn label_severity(d: &[u8], explicit: bool) -> u8
@@ -115,7 +115,7 @@ fn label_severity(d: &[u8], explicit: bool) -> u8
 {
     let at = look(d, explicit, LABEL);
     let v = standings::value(d, at.value);
-    standings::optional_severity(at.kind, values::is_blank(v), values::label_allowed(v))
+    standings::optional_severity(at.kind, texts::is_blank(v), texts::label_allowed(v))
 }
 
 // Check 8 of a session.
@@ -135,7 +135,7 @@ fn copies_or(d: &[u8], explicit: bool, kept: u8) -> u8
     ensures { λ r. ⌜ r ≡ orKept blank (listingOf (now (d .entry)) explicit) 0x2000_0010 (countIn 99) kept ⌝ }
 {
     if is_given(d, explicit, COPIES) {
-        return values::count_in(value_of(d, explicit, COPIES), 99) as u8;
+        return texts::count_in(value_of(d, explicit, COPIES), 99) as u8;
     }
     kept
 }
@@ -172,7 +172,7 @@ fn label_length_or(d: &[u8], explicit: bool, kept: u8) -> u8
     ensures { λ r. ⌜ r ≡ orKept blank (listingOf (now (d .entry)) explicit) 0x2000_0050 (λ v. length (trimmed v)) kept ⌝ }
 {
     if is_given(d, explicit, LABEL) {
-        return values::trimmed(value_of(d, explicit, LABEL)).len() as u8;
+        return texts::trimmed(value_of(d, explicit, LABEL)).len() as u8;
     }
     kept
 }
@@ -183,7 +183,7 @@ fn label_or(d: &[u8], explicit: bool, kept: [u8; 64]) -> [u8; 64]
 {
     if is_given(d, explicit, LABEL) {
         let mut label = [0; 64];
-        octets::put(&mut label, 0, values::trimmed(value_of(d, explicit, LABEL)));
+        octets::put(&mut label, 0, texts::trimmed(value_of(d, explicit, LABEL)));
         return label;
     }
     kept
@@ -213,7 +213,7 @@ fn orientation_severity(d: &[u8], explicit: bool) -> u8
 {
     let at = look(d, explicit, ORIENTATION);
     let v = standings::value(d, at.value);
-    standings::optional_severity(at.kind, values::is_blank(v), values::orientation_in(v) < 2)
+    standings::optional_severity(at.kind, texts::is_blank(v), values::orientation_in(v) < 2)
 }
 
 fn magnification_severity(d: &[u8], explicit: bool) -> u8
@@ -221,11 +221,7 @@ fn magnification_severity(d: &[u8], explicit: bool) -> u8
 {
     let at = look(d, explicit, MAGNIFICATION);
     let v = standings::value(d, at.value);
-    standings::optional_severity(
-        at.kind,
-        values::is_blank(v),
-        values::magnification_in(v) < 4,
-    )
+    standings::optional_severity(at.kind, texts::is_blank(v), values::magnification_in(v) < 4)
 }
 
 fn optional_film(d: &[u8], explicit: bool) -> u8
@@ -326,7 +322,7 @@ fn format_severity(d: &[u8], explicit: bool) -> u8
     let at = look(d, explicit, FORMAT);
     let v = standings::value(d, at.value);
     let grid = values::counts_in(v);
-    standings::severity(at.kind, values::is_blank(v), grid.lines != 0)
+    standings::severity(at.kind, texts::is_blank(v), grid.lines != 0)
 }
 
 // A UI value without its padding.

@@ -152,7 +152,7 @@ fn photometric_severity(d: &[u8], explicit: bool, inside: Inside) -> u8
     let kind = at.kind;
     let place = at.value;
     let v = standings::value(d, place);
-    standings::severity(kind, values::is_blank(v), values::photometric_in(v) < 2)
+    standings::severity(kind, texts::is_blank(v), values::photometric_in(v) < 2)
 }
 
 // "length rows × columns × 1 or 2"
@@ -271,7 +271,7 @@ fn polarity_severity(d: &[u8], explicit: bool) -> u8
     let kind = at.kind;
     let place = at.value;
     let v = standings::value(d, place);
-    standings::optional_severity(kind, values::is_blank(v), values::polarity_in(v) < 2)
+    standings::optional_severity(kind, texts::is_blank(v), values::polarity_in(v) < 2)
 }
 
 pub fn box_broken(boxes: usize, d: &[u8], explicit: bool) -> u16
@@ -303,7 +303,7 @@ fn polarity_or(d: &[u8], explicit: bool, kept: u8) -> u8
     let kind = at.kind;
     let place = at.value;
     let v = standings::value(d, place);
-    if standings::is_given(kind, values::is_blank(v)) {
+    if standings::is_given(kind, texts::is_blank(v)) {
         return values::polarity_in(v) as u8;
     }
     kept

@@ -63,14 +63,14 @@ fn begins_label(s: &[u8], n: usize) -> bool
     ensures { λ r. ⌜ r ≡ labelAllowed (take n (now (s .entry))) ⌝ }
 {
     let m = distinct::within(s, n);
-    values::label_allowed(&s[0..m])
+    texts::label_allowed(&s[0..m])
 }
 
 // Whether no space stands before or behind a text.
 fn is_trimmed(s: &[u8]) -> bool
     ensures { λ r. ⌜ r ≡ same (trimmed (now (s .entry))) (now (s .entry)) ⌝ }
 {
-    octets::same_bytes(values::trimmed(s), s)
+    octets::same_bytes(texts::trimmed(s), s)
 }
 
 fn begins_trimmed(s: &[u8], n: usize) -> bool

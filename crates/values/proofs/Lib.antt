@@ -1,3 +1,3 @@
--- What one turn of each loop does, and what short values hold.
+-- What each test says, and what short values hold.
 mod Octets
 mod Turns

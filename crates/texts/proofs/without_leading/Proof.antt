@@ -1,8 +1,8 @@
 use mathlib.Core.Path.{sym, _∙_}
-use Rattle.values.proofs.Turns.{rest}
+use Rattle.texts.proofs.Turns.{rest}
 use borrow.Author.Needs.{needs}
-use Rattle.values.proofs.without_leading.Statement.{statement}
-use Rattle.values.proofs.without_leading.Tie as tie
+use Rattle.texts.proofs.without_leading.Statement.{statement}
+use Rattle.texts.proofs.without_leading.Tie as tie
 
 returns : tie.Need-returns
 returns c = rest (c .before .before .before .args .s .now) _ ∙ sym (c .before .leading .ensures .0)

@@ -2,10 +2,10 @@ use Prim.Native.Nat.{_-_, _≤_}
 use mathlib.Core.Path.{_≡_, refl, _∙_}
 use lib.ListN.{length, drop}
 use Rattle.rules.specs.Values.{withoutLeading}
-use Rattle.values.proofs.Turns.{leading-space, leading-stop, leading-end}
+use Rattle.texts.proofs.Turns.{leading-space, leading-stop, leading-end}
 use borrow.Author.Needs.{needs}
-use Rattle.values.proofs.leading.Statement.{statement}
-use Rattle.values.proofs.leading.Tie as tie
+use Rattle.texts.proofs.leading.Statement.{statement}
+use Rattle.texts.proofs.leading.Tie as tie
 
 abbrev Inv-loop : tie.InvT-loop
 Inv-loop s i₀ i = (i ≤ length s) × (withoutLeading s ≡ withoutLeading (drop i s))

@@ -1,7 +1,7 @@
 use Rattle.rules.specs.Values.{blank}
 use borrow.Author.Needs.{needs}
-use Rattle.values.proofs.is_blank.Statement.{statement}
-use Rattle.values.proofs.is_blank.Tie as tie
+use Rattle.texts.proofs.is_blank.Statement.{statement}
+use Rattle.texts.proofs.is_blank.Tie as tie
 
 returns : tie.Need-returns
 unfolding blank

@@ -1,11 +1,11 @@
 use Prim.Native.Nat.{_-_, _≤_}
 use mathlib.Core.Path.{_≡_, refl, sym, _∙_}
 use lib.ListN.{length, drop}
-use Rattle.values.specs.Counted.{counted}
-use Rattle.values.proofs.Turns.{counted-over, counted-low, counted-high, counted-turn, counted-end}
+use Rattle.texts.specs.Counted.{counted}
+use Rattle.texts.proofs.Turns.{counted-over, counted-low, counted-high, counted-turn, counted-end}
 use borrow.Author.Needs.{needs}
-use Rattle.values.proofs.digits_count.Statement.{statement}
-use Rattle.values.proofs.digits_count.Tie as tie
+use Rattle.texts.proofs.digits_count.Statement.{statement}
+use Rattle.texts.proofs.digits_count.Tie as tie
 
 abbrev Inv-loop : tie.InvT-loop
 Inv-loop s most v₀ i₀ v i = (i ≤ length s) × (v ≤ most) × (counted most 0 s ≡ counted most v (drop i s))

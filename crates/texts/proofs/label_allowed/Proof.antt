@@ -1,8 +1,8 @@
 use borrow.Author.Tests.{le-leb, lt-leb}
 use Rattle.rules.specs.Values.{labelAllowed}
 use borrow.Author.Needs.{needs}
-use Rattle.values.proofs.label_allowed.Statement.{statement}
-use Rattle.values.proofs.label_allowed.Tie as tie
+use Rattle.texts.proofs.label_allowed.Statement.{statement}
+use Rattle.texts.proofs.label_allowed.Tie as tie
 
 returns : tie.Need-returns
 unfolding labelAllowed

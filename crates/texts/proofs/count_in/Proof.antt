@@ -1,8 +1,8 @@
 use mathlib.Core.Path.{_∙_}
-use Rattle.values.proofs.Turns.{count-long, count-none, count-some}
+use Rattle.texts.proofs.Turns.{count-long, count-none, count-some}
 use borrow.Author.Needs.{needs}
-use Rattle.values.proofs.count_in.Statement.{statement}
-use Rattle.values.proofs.count_in.Tie as tie
+use Rattle.texts.proofs.count_in.Statement.{statement}
+use Rattle.texts.proofs.count_in.Tie as tie
 
 returns : tie.Need-returns
 returns c = (count-long _ _ _ (c .before .trimmed .ensures) (c .if1 .taken), search needs)

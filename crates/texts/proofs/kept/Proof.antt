@@ -3,10 +3,10 @@ use mathlib.Core.Path.{_≡_, ap, sym, _∙_}
 use lib.ListN.{length, take}
 use lib.Seq.{take-length}
 use Rattle.rules.specs.Values.{withoutTrailing}
-use Rattle.values.proofs.Turns.{trailing-space, trailing-stop, trailing-end}
+use Rattle.texts.proofs.Turns.{trailing-space, trailing-stop, trailing-end}
 use borrow.Author.Needs.{needs}
-use Rattle.values.proofs.kept.Statement.{statement}
-use Rattle.values.proofs.kept.Tie as tie
+use Rattle.texts.proofs.kept.Statement.{statement}
+use Rattle.texts.proofs.kept.Tie as tie
 
 abbrev Inv-loop : tie.InvT-loop
 Inv-loop s n₀ n = (n ≤ length s) × (withoutTrailing s ≡ withoutTrailing (take n s))

@@ -4,10 +4,10 @@ use lib.ListN.{length, drop}
 use borrow.Author.Tests.{le-leb, lt-leb, eq-eqb, ne-eqb}
 use Rattle.rules.specs.Lists.{every}
 use Rattle.rules.specs.Values.{labelByte}
-use Rattle.values.proofs.Turns.{label-turn, label-end}
+use Rattle.texts.proofs.Turns.{label-turn, label-end}
 use borrow.Author.Needs.{needs}
-use Rattle.values.proofs.label_bytes.Statement.{statement}
-use Rattle.values.proofs.label_bytes.Tie as tie
+use Rattle.texts.proofs.label_bytes.Statement.{statement}
+use Rattle.texts.proofs.label_bytes.Tie as tie
 
 abbrev Inv-loop : tie.InvT-loop
 Inv-loop s i₀ i = (i ≤ length s) × (every labelByte s ≡ every labelByte (drop i s))

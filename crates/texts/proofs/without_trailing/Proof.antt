@@ -1,8 +1,8 @@
 use mathlib.Core.Path.{sym, _∙_}
-use Rattle.values.proofs.Turns.{front}
+use Rattle.texts.proofs.Turns.{front}
 use borrow.Author.Needs.{needs}
-use Rattle.values.proofs.without_trailing.Statement.{statement}
-use Rattle.values.proofs.without_trailing.Tie as tie
+use Rattle.texts.proofs.without_trailing.Statement.{statement}
+use Rattle.texts.proofs.without_trailing.Tie as tie
 
 returns : tie.Need-returns
 returns c = front (c .before .before .before .args .s .now) (c .before .kept .result) ∙ sym (c .before .kept .ensures .0)

@@ -1,8 +1,8 @@
 use mathlib.Core.Path.{_∙_}
-use Rattle.values.proofs.Turns.{rest, plus-none, plus-off, plus-not}
+use Rattle.texts.proofs.Turns.{rest, plus-none, plus-off, plus-not}
 use borrow.Author.Needs.{needs}
-use Rattle.values.proofs.without_plus.Statement.{statement}
-use Rattle.values.proofs.without_plus.Tie as tie
+use Rattle.texts.proofs.without_plus.Statement.{statement}
+use Rattle.texts.proofs.without_plus.Tie as tie
 
 returns : tie.Need-returns
 returns c = plus-none _ (c .if1 .taken)

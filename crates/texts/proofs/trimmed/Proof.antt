@@ -1,8 +1,8 @@
 use mathlib.Core.Path.{ap, _∙_}
 use Rattle.rules.specs.Values.{withoutTrailing, trimmed}
 use borrow.Author.Needs.{needs}
-use Rattle.values.proofs.trimmed.Statement.{statement}
-use Rattle.values.proofs.trimmed.Tie as tie
+use Rattle.texts.proofs.trimmed.Statement.{statement}
+use Rattle.texts.proofs.trimmed.Tie as tie
 
 returns : tie.Need-returns
 unfolding trimmed

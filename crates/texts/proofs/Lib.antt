@@ -1,0 +1,2 @@
+-- What one turn of each loop does.
+mod Turns
