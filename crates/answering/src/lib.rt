@@ -73,7 +73,7 @@ pub fn feed(
             19
         }
         Answer::AsksWhole => {
-            let d = instances::front(message, i.got as usize);
+            let d = naming::front(message, i.got as usize);
             asking::asked(
                 records,
                 command,

@@ -58,7 +58,7 @@ pub fn asked(
     requires { ⌜ RoomFor (now records) (now command) (now data_set) (now report) × Ready k × (length (now d) ≤ 16777216) × (dataOf (dataMeant came (now d)) ≡ now d) ⌝ }
     ensures { λ _. ⌜ (now (records .exit) ≡ settledBy (decide k (take used text) (dataMeant came (now (d .entry)))) (now (records .entry))) × (now (command .exit) ≡ laid (now (command .entry)) 0 (replyIn (decide k (take used text) (dataMeant came (now (d .entry)))) .command)) × (now (data_set .exit) ≡ laid (now (data_set .entry)) 0 (replyIn (decide k (take used text) (dataMeant came (now (d .entry)))) .dataSet)) × (now (report .exit) ≡ laid (now (report .entry)) 0 (reportBytes (replyIn (decide k (take used text) (dataMeant came (now (d .entry))))))) ⌝ }
 {
-    let c = instances::front(&text, used);
+    let c = naming::front(&text, used);
     match commands::understood(c) {
         Command::Unreadable => unknown(records, command, report, 0, 0),
         Command::Unknown { message, field } => unknown(records, command, report, message, field),

@@ -7,8 +7,8 @@ use mathlib.Core.Bool.{Bool, true, false}
 use mathlib.Core.List.{List, [], _∷_, _++_}
 use native.Mathlib.Omega.{arith}
 use lib.Dec.{eqb, leb, ltb}
-use lib.ListN.{length, set, take, drop, replicate, length-replicate, replicate-append-replicate}
-use lib.Seq.{take-append-seam, append-snoc, set-at, drop-at}
+use lib.ListN.{length, set, drop, replicate, length-replicate, replicate-append-replicate}
+use lib.Seq.{append-snoc, set-at, drop-at}
 use borrow.Author.Tests.{ltb-true, ltb-false, leb-true, eqb-true}
 use Rattle.choice.specs.Pick.{pick, either, not}
 use Rattle.choice.specs.Rules.{firstBroken}
@@ -195,14 +195,3 @@ lines-done n k i lines e = rw (e, length-replicate lines k)
 
 pub layout-told : (lines boxes : ℕ) {xs counts : List ℕ} → replicate lines boxes ≡ xs → counts ≡ filledTo 6 0 (replicate lines boxes) → record { lines = lines; counts = counts } ≡ layoutFrom xs
 layout-told lines boxes e h = rw (h, ← e, length-replicate lines boxes)
-
--- The front of bytes.
-
-pub front-of : (s : List ℕ) (n : ℕ) → take (n - 0) (drop 0 s) ≡ take n s
-front-of s n = let e : n - 0 ≡ n = omega arith in ap (λ m. take m s) e
-
--- what was laid in front stands there
-pub front-laid : (s out bytes : List ℕ) (n : ℕ) → out ≡ laid s 0 bytes → n ≡ 0 + length bytes → take (n - 0) (drop 0 out) ≡ bytes
-front-laid s out bytes n e h =
-    let g : n ≡ length bytes = omega arith in
-    front-of out n ∙ ap (take n) e ∙ ap (λ m. take m (laid s 0 bytes)) g ∙ take-append-seam bytes (drop (0 + length bytes) s)

@@ -5,18 +5,17 @@ use headers::Inside;
 use rules::Core;
 use rules::Film;
 use rules::Layout;
-use rules::Name;
 use rules::Numbers;
 use rules::Session;
 use standings::Attribute;
 ghost use mathlib.Core.Path.{_≡_};
 ghost use Prim.Native.Nat.{_≤_};
 ghost use lib.Dec.{eqb};
-ghost use lib.ListN.{length, take, replicate};
+ghost use lib.ListN.{length, replicate};
 ghost use Rattle.choice.specs.Pick.{both, not};
 ghost use Rattle.choice.specs.Rules.{firstBroken};
 ghost use Rattle.octets.specs.Octets.{same};
-ghost use Rattle.uids.specs.Uids.{isUid, unpadded, made};
+ghost use Rattle.uids.specs.Uids.{isUid};
 ghost use Rattle.elements.specs.declared.Items.the-variants.{One};
 ghost use Rattle.elements.specs.Find.{itemsAt};
 ghost use Rattle.rules.specs.Text.{sessionClass};
@@ -325,14 +324,6 @@ fn format_severity(d: &[u8], explicit: bool) -> u8
     standings::severity(at.kind, texts::is_blank(v), grid.lines != 0)
 }
 
-// A UI value without its padding.
-fn unpadded(v: &[u8]) -> &[u8]
-    ensures { λ r. ⌜ now r ≡ unpadded (now (v .entry)) ⌝ }
-{
-    let n = uids::unpadded_length(v);
-    &v[0..n]
-}
-
 fn is_session_class(u: &[u8]) -> bool
     ensures { λ r. ⌜ r ≡ both (isUid (now (u .entry))) (same sessionClass (now (u .entry))) ⌝ }
 {
@@ -340,40 +331,6 @@ fn is_session_class(u: &[u8]) -> bool
         return false;
     }
     octets::same_bytes(b"1.2.840.10008.5.1.1.1", u)
-}
-
-// The first n bytes, or all where there are fewer.
-fn front(s: &[u8], n: usize) -> &[u8]
-    ensures { λ r. ⌜ now r ≡ take n (now (s .entry)) ⌝ }
-{
-    if n < s.len() {
-        return &s[0..n];
-    }
-    s
-}
-
-// Whether a UID is the one made of a root and a serial.
-fn is_made(root: &[u8], serial: u32, uid: &[u8]) -> bool
-    requires { ⌜ length (now root) ≤ 40 ⌝ }
-    ensures { λ r. ⌜ r ≡ same (now (uid .entry)) (made (now (root .entry)) serial) ⌝ }
-{
-    let mut out = [0; 64];
-    let end = uids::put_made(&mut out, 0, root, serial);
-    octets::same_bytes(uid, &out[0..end])
-}
-
-// Whether a UID is the one that a name stands for.
-fn is_named(n: Numbers, name: Name, uid: &[u8]) -> bool
-    requires { ⌜ n .used ≤ 40 ⌝ }
-    ensures { λ r. ⌜ r ≡ same (now (uid .entry)) (uidOf n name) ⌝ }
-{
-    let serial = name.made;
-    if serial.0 == 0 {
-        let text = name.text;
-        return octets::same_bytes(uid, front(&text, name.used as usize));
-    }
-    let root = n.root;
-    is_made(front(&root, n.used as usize), serial.0, uid)
 }
 
 // "naming the live session"
@@ -388,7 +345,7 @@ fn is_session(n: Numbers, s: Session, u: &[u8]) -> bool
         return false;
     }
     let name = s.name;
-    is_named(n, name, u)
+    naming::is_named(n, name, u)
 }
 
 fn class_severity(d: &[u8], explicit: bool, inside: Inside) -> u8
@@ -397,7 +354,7 @@ fn class_severity(d: &[u8], explicit: bool, inside: Inside) -> u8
 {
     let at = standings::look(d, explicit, 3, inside, REFERENCED_CLASS);
     let v = standings::value(d, at.value);
-    standings::severity(at.kind, v.len() == 0, is_session_class(unpadded(v)))
+    standings::severity(at.kind, v.len() == 0, is_session_class(naming::unpadded(v)))
 }
 
 fn instance_severity(n: Numbers, s: Session, d: &[u8], explicit: bool, inside: Inside) -> u8
@@ -406,7 +363,7 @@ fn instance_severity(n: Numbers, s: Session, d: &[u8], explicit: bool, inside: I
 {
     let at = standings::look(d, explicit, 3, inside, REFERENCED_INSTANCE);
     let v = standings::value(d, at.value);
-    standings::severity(at.kind, v.len() == 0, is_session(n, s, unpadded(v)))
+    standings::severity(at.kind, v.len() == 0, is_session(n, s, naming::unpadded(v)))
 }
 
 // The only item of the reference.

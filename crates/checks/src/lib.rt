@@ -38,7 +38,7 @@ pub fn create_broken(k: Core, c: &[u8], sent: Part) -> u16
         return 0x0117;
     }
     let numbers = k.numbers;
-    if instances::is_rooted(numbers, uid) {
+    if naming::is_rooted(numbers, uid) {
         return 0x0117;
     }
     if !is_nobody(instances::named(k, uid)) {

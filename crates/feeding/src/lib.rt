@@ -36,7 +36,7 @@ fn put_text(out: &mut [u8], text: [u8; 64], used: usize) -> usize
     requires { ⌜ 64 ≤ length (now out) ⌝ }
     ensures { λ r. ⌜ (now (out .exit) ≡ laid (now (out .entry)) 0 (take used text)) × (r ≡ length (take used text)) × (length text ≡ 64) ⌝ }
 {
-    let uid = instances::front(&text, used);
+    let uid = naming::front(&text, used);
     octets::put(out, 0, uid);
     uid.len()
 }
@@ -52,7 +52,7 @@ fn put_uid(out: &mut [u8], n: Numbers, name: Name) -> usize
         return put_text(out, text, name.used as usize);
     }
     let root = n.root;
-    uids::put_made(out, 0, instances::front(&root, n.used as usize), serial.0)
+    uids::put_made(out, 0, naming::front(&root, n.used as usize), serial.0)
 }
 
 // The created film's data set, no bytes where no film was created: how many bytes it has.
@@ -69,7 +69,7 @@ fn put_data(data_set: &mut [u8], k: Core, boxes: NewBoxes) -> usize
     put_film_boxes(
         data_set,
         opened.syntax == 2,
-        instances::front(&root, numbers.used as usize),
+        naming::front(&root, numbers.used as usize),
         boxes.first,
         boxes.count as usize,
     )
@@ -186,7 +186,7 @@ pub fn respond(
         request,
         0 < size,
         v.status,
-        instances::front(&uid, n),
+        naming::front(&uid, n),
     );
     let notice = v.notice;
     put_note(report, v.status, stop, size, notice);

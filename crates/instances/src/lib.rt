@@ -2,7 +2,6 @@
 use headers::Part;
 use rules::Core;
 use rules::Film;
-use rules::Name;
 use rules::Numbers;
 use rules::Operation;
 use rules::Session;
@@ -13,10 +12,10 @@ ghost use Prim.Native.Nat.{_+_, _≤_};
 ghost use lib.ListN.{length, take};
 ghost use Rattle.choice.specs.Pick.{both};
 ghost use Rattle.octets.specs.Octets.{same};
-ghost use Rattle.uids.specs.Uids.{beginsWith, unpadded, made};
+ghost use Rattle.uids.specs.Uids.{made};
 ghost use Rattle.rules.specs.Bounds.{noneLeft};
 ghost use Rattle.rules.specs.Lists.{placeOf, from};
-ghost use Rattle.rules.specs.Records.{rootOf, uidOf, isLive, boxUids, filmNamed, boxNamed, named};
+ghost use Rattle.rules.specs.Records.{uidOf, isLive, boxUids, filmNamed, boxNamed, named};
 ghost use Rattle.rules.specs.Commands.{uidAt};
 ghost use Rattle.rules.specs.Checks.{verification, boxes, classOf, offers, classPart};
 ghost use Rattle.rules.specs.Sound.{coreSound};
@@ -89,47 +88,6 @@ pub fn offers(class: Class, operation: Operation) -> bool
     }
 }
 
-// The first n bytes, or all where there are fewer.
-pub fn front(s: &[u8], n: usize) -> &[u8]
-    ensures { λ r. ⌜ now r ≡ take n (now (s .entry)) ⌝ }
-{
-    if n < s.len() {
-        return &s[0..n];
-    }
-    s
-}
-
-// Whether a UID is the one made of a root, a dot and a serial.
-fn is_made(root: &[u8], serial: u32, uid: &[u8]) -> bool
-    requires { ⌜ length (now root) ≤ 40 ⌝ }
-    ensures { λ r. ⌜ r ≡ same (now (uid .entry)) (made (now (root .entry)) serial) ⌝ }
-{
-    let mut out = [0; 64];
-    let end = uids::put_made(&mut out, 0, root, serial);
-    octets::same_bytes(uid, &out[0..end])
-}
-
-// Whether a UID begins with the root and a dot.
-pub fn is_rooted(n: Numbers, uid: &[u8]) -> bool
-    ensures { λ r. ⌜ r ≡ beginsWith (rootOf n) (now (uid .entry)) ⌝ }
-{
-    let root = n.root;
-    uids::begins_with(front(&root, n.used as usize), uid)
-}
-
-pub fn is_named(n: Numbers, name: Name, uid: &[u8]) -> bool
-    requires { ⌜ n .used ≤ 40 ⌝ }
-    ensures { λ r. ⌜ r ≡ same (now (uid .entry)) (uidOf n name) ⌝ }
-{
-    let serial = name.made;
-    if serial.0 == 0 {
-        let text = name.text;
-        return octets::same_bytes(uid, front(&text, name.used as usize));
-    }
-    let root = n.root;
-    is_made(front(&root, n.used as usize), serial.0, uid)
-}
-
 // The instance that a UID names: a film or a box by its place.
 pub enum Whom {
     Nobody,
@@ -145,7 +103,7 @@ fn made_place(root: &[u8], first: u32, count: usize, uid: &[u8]) -> usize
 {
     let mut i = 0;
     while i < count {
-        if is_made(root, first + i as u32, uid) {
+        if naming::is_made(root, first + i as u32, uid) {
             return i;
         }
         i += 1;
@@ -162,7 +120,7 @@ fn box_place(n: Numbers, f: Film, uid: &[u8]) -> usize
     let layout = f.layout;
     let count = distinct::box_count(layout) as usize;
     let first = f.first;
-    made_place(front(&root, n.used as usize), first.0, count, uid)
+    made_place(naming::front(&root, n.used as usize), first.0, count, uid)
 }
 
 // Whether a UID names a box of the film.
@@ -185,7 +143,7 @@ fn film_named(n: Numbers, films: [Film; 8], count: usize, uid: &[u8]) -> usize
     while i < count {
         let film = xs[i];
         let name = film.name;
-        if is_named(n, name, uid) {
+        if naming::is_named(n, name, uid) {
             return i;
         }
         i += 1;
@@ -218,7 +176,7 @@ fn is_session(n: Numbers, s: Session, uid: &[u8]) -> bool
         return false;
     }
     let name = s.name;
-    is_named(n, name, uid)
+    naming::is_named(n, name, uid)
 }
 
 // The instance that a UID names.
@@ -239,7 +197,7 @@ pub fn named(k: Core, uid: &[u8]) -> Whom
         return Whom::Film(film);
     }
     // a box's UID was made
-    if !is_rooted(numbers, uid) {
+    if !naming::is_rooted(numbers, uid) {
         return Whom::Nobody;
     }
     let other = film_with_box(numbers, films, count, uid);
@@ -253,13 +211,6 @@ pub fn named(k: Core, uid: &[u8]) -> Whom
     }
 }
 
-fn unpadded(v: &[u8]) -> &[u8]
-    ensures { λ r. ⌜ now r ≡ unpadded (now (v .entry)) ⌝ }
-{
-    let n = uids::unpadded_length(v);
-    &v[0..n]
-}
-
 // The UID that stands at a place of a command.
 pub fn uid_at(c: &[u8], p: Part) -> &[u8]
     requires { ⌜ PartIn (length (now c)) p ⌝ }
@@ -267,7 +218,7 @@ pub fn uid_at(c: &[u8], p: Part) -> &[u8]
 {
     let from = p.from;
     let stop = p.stop;
-    unpadded(&c[from..stop])
+    naming::unpadded(&c[from..stop])
 }
 
 // What came as data set.

@@ -2,8 +2,8 @@ use mathlib.Core.Path.{ap, _∙_}
 use Rattle.uids.specs.Uids.{beginsWith}
 use Rattle.rules.specs.Records.{rootOf}
 use borrow.Author.Needs.{needs}
-use Rattle.instances.proofs.is_rooted.Statement.{statement}
-use Rattle.instances.proofs.is_rooted.Tie as tie
+use Rattle.naming.proofs.is_rooted.Statement.{statement}
+use Rattle.naming.proofs.is_rooted.Tie as tie
 
 returns : tie.Need-returns
 unfolding rootOf

@@ -1,9 +1,9 @@
 use mathlib.Core.Path.{sym}
 use lib.Seq.{take-all}
-use Rattle.instances.proofs.Parts.{front}
+use Rattle.naming.proofs.Parts.{front}
 use borrow.Author.Needs.{needs}
-use Rattle.instances.proofs.front.Statement.{statement}
-use Rattle.instances.proofs.front.Tie as tie
+use Rattle.naming.proofs.front.Statement.{statement}
+use Rattle.naming.proofs.front.Tie as tie
 
 returns : tie.Need-returns
 returns c = front (c .before .before .args .s .now) (c .before .before .args .n)

@@ -1,10 +1,10 @@
 use mathlib.Core.Path.{ap, _∙_}
 use lib.ListN.{take}
 use Rattle.uids.proofs.Padding.{unpadded-front}
-use Rattle.instances.proofs.Parts.{front}
+use Rattle.naming.proofs.Parts.{front}
 use borrow.Author.Needs.{needs}
-use Rattle.instances.proofs.unpadded.Statement.{statement}
-use Rattle.instances.proofs.unpadded.Tie as tie
+use Rattle.naming.proofs.unpadded.Statement.{statement}
+use Rattle.naming.proofs.unpadded.Tie as tie
 
 returns : tie.Need-returns
 returns c = let v = c .before .before .before .args .v .now in

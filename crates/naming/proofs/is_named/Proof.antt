@@ -5,8 +5,8 @@ use Rattle.octets.specs.Octets.{same}
 use Rattle.uids.specs.Uids.{made}
 use Rattle.rules.specs.Records.{rootOf, uidOf}
 use borrow.Author.Needs.{needs}
-use Rattle.attributes.proofs.is_named.Statement.{statement}
-use Rattle.attributes.proofs.is_named.Tie as tie
+use Rattle.naming.proofs.is_named.Statement.{statement}
+use Rattle.naming.proofs.is_named.Tie as tie
 
 returns : tie.Need-returns
 unfolding uidOf rootOf
@@ -22,4 +22,16 @@ returns-2 c = let a = c .before .before .before .before .before .before .before 
     c .is-made .ensures ∙ ap (λ root. same (a .uid .now) (made root (a .name .made .0))) (c .before .front2 .ensures) ∙ simp (ne-eqb _ _ (c .before .before .before .before .before .if1 .left))
 
 pub is-named-spec : {M : Type 1} → statement M
-is-named-spec = tie.close (tie.spec (λ c. search needs) (λ c. search needs) (λ c κs. search needs) (λ c κs. search needs) returns (λ c. search needs) (λ c. search needs) (λ c κs. search needs) is-made-requires returns-2)
+is-named-spec =
+    tie.close
+    (tie.spec
+    (λ c. search needs)
+    (λ c. search needs)
+    (λ c κs. search needs)
+    (λ c κs. search needs)
+    returns
+    (λ c. search needs)
+    (λ c. search needs)
+    (λ c κs. search needs)
+    is-made-requires
+    returns-2)

@@ -1,0 +1,2 @@
+-- What the functions rest on.
+mod Parts
