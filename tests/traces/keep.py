@@ -1,6 +1,7 @@
 #!/usr/bin/env python3
 """Writes the kept traces with their replies, small ones that show each part of document 01 once.
-Replies are the second program's; where the console foretold one, they must agree."""
+Replies are the second program's; where the console foretold one, they must agree.
+Writes too which traces crates/traces is to replay, and what it is to say of them."""
 import os
 import random
 import sys
@@ -8,9 +9,13 @@ import sys
 import damages
 from examples import EXAMPLES
 from generate import *
-from program import HERE, Run
+from program import ROOT, Run
 
-KEPT = os.path.join(HERE, "kept")
+CRATE = os.path.join(ROOT, "crates", "traces")
+KEPT = os.path.join(CRATE, "data")
+
+# The longest message buffer that crates/traces lends: it makes no open that lends more.
+LENT = 65537
 
 
 # The syntax tells in these, so both are kept.
@@ -187,16 +192,30 @@ def kept_traces():
     yield "unstarted", unstarted()
 
 
+def said(name, calls):
+    """What crates/traces is to say of a trace."""
+    passed = sum(call.startswith("open ") and int(call.split()[3]) > LENT for call in calls)
+    return f"{name}.trace: {len(calls) - passed} replies as kept" + (f", calls not made: {passed}" if passed else "")
+
+
+def write(path, rows):
+    with open(path, "w", encoding="ascii") as out:
+        out.write("\n".join(rows) + "\n")
+
+
 def main():
-    os.makedirs(KEPT, exist_ok=True)
-    for name, c in kept_traces():
+    args, stdout = [], []
+    for name, c in sorted(kept_traces(), key=lambda kept: kept[0]):
         run = Run(c.lines)
         wrong = run.differs(c.lines, c.foretold)
         if wrong:
             sys.exit(f"{name}: {wrong}")
         for ending, rows in (("trace", c.lines), ("replies", run.replies)):
-            with open(os.path.join(KEPT, f"{name}.{ending}"), "w", encoding="ascii") as out:
-                out.write("\n".join(rows) + "\n")
+            write(os.path.join(KEPT, f"{name}.{ending}"), rows)
+            args.append(f"{name}.{ending}")
+        stdout.append(said(name, c.lines))
+    write(os.path.join(CRATE, "args"), args)
+    write(os.path.join(CRATE, "stdout"), stdout)
 
 
 if __name__ == "__main__":

@@ -1,12 +1,12 @@
-// The calls of a trace made.
+// The calls of a trace, each a line, made on the gateway. What a call is handed stands from a place of its line on.
 use crate::replies::after;
 use crate::replies::is_answer;
 use crate::replies::is_entry;
 use crate::replies::is_response;
+use crate::words::bytes_of;
 use crate::words::next_word;
 use crate::words::number;
 use crate::words::number32;
-use crate::words::unhexed;
 use crate::words::word_stop;
 use octets::same_bytes;
 ghost use Prim.Native.Nat.{_≤_};
@@ -26,27 +26,27 @@ fn came_to(same: bool, room: usize) -> Outcome {
     Outcome::Other
 }
 
-fn start(records: &mut [u8], root: &mut [u8], serial: u32, picture: u32, reply: &[u8]) -> bool {
-    let n = unhexed(root);
-    is_answer(
-        reply,
-        gateway::gateway_start(records, &root[0..n], serial, picture),
-    )
-}
-
-fn start_line(records: &mut [u8], line: &mut [u8], at: usize, reply: &[u8]) -> bool
+fn start(records: &mut [u8], line: &[u8], at: usize, reply: &[u8]) -> bool
     requires { ⌜ at ≤ length (now line) ⌝ }
 {
     let second = next_word(line, at);
     let third = next_word(line, second);
-    let serial = number32(line, second);
-    let picture = number32(line, third);
     let stop = word_stop(line, at);
-    start(records, &mut line[at..stop], serial, picture, reply)
+    let mut root = io::large_buffer();
+    let n = bytes_of(&line[at..stop], &mut root);
+    is_answer(
+        reply,
+        gateway::gateway_start(
+            records,
+            &root[0..n],
+            number32(line, second),
+            number32(line, third),
+        ),
+    )
 }
 
-// A message buffer past the limit does not fit a program's stack: lending one is left to host/replay.c.
-fn open_line(
+// An open that lends more than there is, is not made: a message buffer past the limit does not fit a program's stack.
+fn open(
     records: &mut [u8],
     message: &[u8],
     room: usize,
@@ -89,18 +89,22 @@ fn feed(records: &mut [u8], message: &mut [u8], fragment: &[u8], reply: &[u8]) -
     is_answer(reply, n)
 }
 
-fn feed_word(
+fn feed_line(
     records: &mut [u8],
     message: &mut [u8],
     room: usize,
-    word: &mut [u8],
+    line: &[u8],
+    at: usize,
     reply: &[u8],
-) -> bool {
-    let n = unhexed(word);
+) -> bool
+    requires { ⌜ at ≤ length (now line) ⌝ }
+{
     if message.len() < room {
         return false;
     }
-    feed(records, &mut message[0..room], &word[0..n], reply)
+    let mut fragment = io::large_buffer();
+    let n = bytes_of(&line[at..], &mut fragment);
+    feed(records, &mut message[0..room], &fragment[0..n], reply)
 }
 
 fn take(records: &mut [u8], reply: &[u8]) -> bool {
@@ -117,10 +121,10 @@ fn close(records: &mut [u8], reply: &[u8]) -> bool {
 }
 
 // The calls that are lent no message buffer. A line that is no call has no reply.
-fn short_call(records: &mut [u8], line: &mut [u8], reply: &[u8]) -> bool {
+fn call_without_message(records: &mut [u8], line: &[u8], reply: &[u8]) -> bool {
     let root = after(line, 0, b"start ");
     if root <= line.len() {
-        return start_line(records, line, root, reply);
+        return start(records, line, root, reply);
     }
     if same_bytes(line, b"take") {
         return take(records, reply);
@@ -136,19 +140,19 @@ pub fn call(
     records: &mut [u8],
     message: &mut [u8],
     room: usize,
-    line: &mut [u8],
+    line: &[u8],
     reply: &[u8],
 ) -> Outcome {
     let fragment = after(line, 0, b"feed ");
     if fragment <= line.len() {
         return came_to(
-            feed_word(records, message, room, &mut line[fragment..], reply),
+            feed_line(records, message, room, line, fragment, reply),
             room,
         );
     }
     let context = after(line, 0, b"open ");
     if context <= line.len() {
-        return open_line(records, message, room, line, context, reply);
+        return open(records, message, room, line, context, reply);
     }
-    came_to(short_call(records, line, reply), room)
+    came_to(call_without_message(records, line, reply), room)
 }

@@ -1,6 +1,6 @@
 // Makes the calls of the kept traces (tests/traces) on the gateway, and holds each reply to the kept one. The arguments
-// are a trace and its replies, by turns. Writes a line for each trace: how many replies were as kept, or where
-// there was another.
+// are a trace and its replies, by turns. Writes a line for each trace: how many replies were as kept, and whether
+// another came then.
 mod calls;
 mod replies;
 mod words;
@@ -40,14 +40,15 @@ fn line_at(s: &[u8], at: usize) -> Line
     Line { stop, next: stop }
 }
 
-// What a trace came to: how many replies were as kept and how many calls were not made, or after how many calls there
-// was another reply.
-enum Finding {
-    AsKept(usize, usize),
-    Other(usize),
+// What a trace came to: how many replies were as kept, how many calls were not made, and whether that was all of it.
+struct Finding {
+    same: usize,
+    passed: usize,
+    whole: bool,
 }
 
-fn replayed(records: &mut [u8], message: &mut [u8], trace: &mut [u8], kept: &[u8]) -> Finding {
+// The calls are made on records and a message buffer of this program; before any open the least one is lent.
+fn replayed(records: &mut [u8], message: &mut [u8], trace: &[u8], kept: &[u8]) -> Finding {
     let mut room = 4096;
     let mut same = 0;
     let mut passed = 0;
@@ -58,13 +59,7 @@ fn replayed(records: &mut [u8], message: &mut [u8], trace: &mut [u8], kept: &[u8
         let reply = line_at(kept, told);
         let stop = line.stop;
         let end = reply.stop;
-        match calls::call(
-            records,
-            message,
-            room,
-            &mut trace[at..stop],
-            &kept[told..end],
-        ) {
+        match calls::call(records, message, room, &trace[at..stop], &kept[told..end]) {
             Outcome::AsKept(lent) => {
                 room = lent;
                 same += 1;
@@ -73,36 +68,44 @@ fn replayed(records: &mut [u8], message: &mut [u8], trace: &mut [u8], kept: &[u8
                 passed += 1;
             }
             Outcome::Other => {
-                return Finding::Other(same + passed);
+                return Finding {
+                    same,
+                    passed,
+                    whole: false,
+                };
             }
         }
         at = line.next;
         told = reply.next;
     }
-    if told < kept.len() {
-        return Finding::Other(same + passed);
+    Finding {
+        same,
+        passed,
+        whole: told == kept.len(),
     }
-    Finding::AsKept(same, passed)
+}
+
+fn print_passed(n: usize) {
+    if n == 0 {
+        return;
+    }
+    print(b", calls not made: ");
+    print_count(n);
+}
+
+fn print_rest(whole: bool) {
+    if whole {
+        return;
+    }
+    print(b", then another");
 }
 
 fn report(finding: Finding) {
-    match finding {
-        Finding::AsKept(same, passed) => {
-            print_count(same);
-            print(b" replies as kept");
-            if passed != 0 {
-                print(b", ");
-                print_count(passed);
-                print(b" calls not made");
-            }
-            print(b"\n");
-        }
-        Finding::Other(n) => {
-            print(b"another reply after ");
-            print_count(n);
-            print(b" calls\n");
-        }
-    }
+    print_count(finding.same);
+    print(b" replies as kept");
+    print_passed(finding.passed);
+    print_rest(finding.whole);
+    print(b"\n");
 }
 
 fn print_argument(i: usize) {
@@ -123,7 +126,7 @@ fn read(i: usize, into: &mut [u8]) -> usize
     got
 }
 
-// The longest message buffer that a kept trace opens with, but for those past the limit.
+// The longest that a kept trace opens with, but for those past the limit.
 fn message_buffer() -> [u8; 65537]
     ensures { λ r. ⌜ 65537 ≡ length r ⌝ }
 {
@@ -139,12 +142,7 @@ fn replay(i: usize, j: usize) {
     let mut message = message_buffer();
     print_argument(i);
     print(b": ");
-    report(replayed(
-        &mut records,
-        &mut message,
-        &mut trace[..calls],
-        &kept[..told],
-    ));
+    report(replayed(&mut records, &mut message, &trace[..calls], &kept[..told]));
 }
 
 fn main() {

@@ -73,14 +73,17 @@ pub fn number32(line: &[u8], at: usize) -> u32 {
     n as u32
 }
 
-// Puts the bytes of a word in hexadecimal where the word began, and answers how many there are. - has none.
-pub fn unhexed(word: &mut [u8]) -> usize
-    ensures { λ r. ⌜ r ≤ length (now (word .exit)) ⌝ }
+// Puts the bytes of a word in hexadecimal at the start of a buffer, and answers how many there are. - has none.
+pub fn bytes_of(word: &[u8], out: &mut [u8]) -> usize
+    ensures { λ r. ⌜ r ≤ length (now (out .exit)) ⌝ }
 {
     let half = word.len() / 2;
+    if out.len() < half {
+        return 0;
+    }
     let mut i = 0;
     while i < half {
-        word[i] = 16 * digit(word[2 * i]) + digit(word[2 * i + 1]);
+        out[i] = 16 * digit(word[2 * i]) + digit(word[2 * i + 1]);
         i += 1;
     }
     half

@@ -1,4 +1,4 @@
--- `traces::replayed` is safe and ends: each turn passes a line of the trace, whose length stays. Assumes nothing.
+-- `traces::replayed` is safe and ends: each turn passes a line of the trace. Assumes nothing.
 use borrow.Author.Needs.{needs}
 use Prim.Native.Nat.{_+_, _-_, _≤_}
 use mathlib.Core.Path.{_≡_}
@@ -7,12 +7,10 @@ use Rattle.traces.proofs.replayed.Statement.{statement}
 use Rattle.traces.proofs.replayed.Tie as tie
 
 abbrev Inv-loop : tie.InvT-loop
-Inv-loop records₀ message₀ trace₀ kept room₀ same₀ passed₀ at₀ told₀ records message trace room same passed at told =
-    (at ≤ length trace) × (told ≤ length kept) × (same + passed ≤ at) × (length trace ≡ length trace₀) × (length message ≡ length message₀) × (length records ≡ length records₀)
+Inv-loop records₀ message₀ trace kept room₀ same₀ passed₀ at₀ told₀ records message room same passed at told = (at ≤ length trace) × (told ≤ length kept) × (same + passed ≤ at) × (length message ≡ length message₀) × (length records ≡ length records₀)
 
 abbrev μ-loop : tie.MeasureT-loop
-μ-loop records₀ message₀ trace₀ kept room₀ same₀ passed₀ at₀ told₀ records message trace room same passed at told =
-    length trace₀ - at
+μ-loop records₀ message₀ trace kept room₀ same₀ passed₀ at₀ told₀ records message room same passed at told = length trace - at
 
 pub replayed-spec : {M : Type 1} → statement M
 replayed-spec =
@@ -30,14 +28,6 @@ replayed-spec =
     (λ c. search needs)
     (λ c. search needs)
     (λ c κs. search needs)
-    (λ c. search needs)
-    (λ c. search needs)
-    (λ c. search needs)
-    (λ c. search needs)
-    (λ c. search needs)
-    (λ c. search needs)
-    (λ c. search needs)
-    (λ c. search needs)
     (λ c. search needs)
     (λ c. search needs)
     (λ c. search needs)
