@@ -75,7 +75,7 @@ fn length_head(from: usize, end: usize, vr: usize, length: usize) -> Head
     ensures { λ r. ⌜ r ≡ lengthHead from end vr length ⌝ }
 {
     if length == 0xFFFF_FFFF {
-        if vr != SQ {
+        if vr != SQ as usize {
             return Head::Fault(5);
         }
         return Head::Nest(Inside {
@@ -90,7 +90,7 @@ fn length_head(from: usize, end: usize, vr: usize, length: usize) -> Head
     if end - from < length {
         return Head::Fault(1);
     }
-    if vr == SQ {
+    if vr == SQ as usize {
         return Head::Nest(Inside {
             from,
             stop: from + length,
@@ -114,7 +114,7 @@ pub fn item_head(s: &[u8], end: usize, at: usize) -> Head
     if tag_at(s, at) != 0xFFFE_E000 {
         return Head::Fault(6);
     }
-    length_head(at + 8, end, SQ, u32_at(s, at + 4))
+    length_head(at + 8, end, SQ as usize, u32_at(s, at + 4))
 }
 
 // The header of an element in implicit VR.

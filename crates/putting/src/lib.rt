@@ -16,7 +16,7 @@ ghost use Rattle.writing.specs.Bytes.{padding, element};
 fn pad(vr: usize) -> u64
     ensures { λ r. ⌜ r ≡ padding vr ⌝ }
 {
-    if vr == UI {
+    if vr == UI as usize {
         return 0x00;
     }
     0x20
@@ -63,12 +63,12 @@ pub fn put_us(out: &mut [u8], at: usize, explicit: bool, tag: usize, x: u16) -> 
     requires { ⌜ at + length (element explicit tag US (octets 2 x)) ≤ length (now out) ⌝ }
     ensures { λ r. ⌜ (now (out .exit) ≡ laid (now (out .entry)) at (element explicit tag US (octets 2 x))) × (r ≡ at + length (element explicit tag US (octets 2 x))) ⌝ }
 {
-    put_number_element(out, at, explicit, tag, US, 2, x as u64)
+    put_number_element(out, at, explicit, tag, US as usize, 2, x as u64)
 }
 
 pub fn put_ul(out: &mut [u8], at: usize, explicit: bool, tag: usize, x: u32) -> usize
     requires { ⌜ at + length (element explicit tag UL (octets 4 x)) ≤ length (now out) ⌝ }
     ensures { λ r. ⌜ (now (out .exit) ≡ laid (now (out .entry)) at (element explicit tag UL (octets 4 x))) × (r ≡ at + length (element explicit tag UL (octets 4 x))) ⌝ }
 {
-    put_number_element(out, at, explicit, tag, UL, 4, x as u64)
+    put_number_element(out, at, explicit, tag, UL as usize, 4, x as u64)
 }

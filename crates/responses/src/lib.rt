@@ -59,7 +59,7 @@ fn put_uid(out: &mut [u8], at: usize, tag: usize, uid: &[u8]) -> usize
     if uid.len() == 0 {
         return at;
     }
-    put_element(out, at, false, tag, UI, uid)
+    put_element(out, at, false, tag, UI as usize, uid)
 }
 
 // The action type, where there is one: the place after it.
@@ -152,10 +152,17 @@ fn put_box_list(out: &mut [u8], at: usize, explicit: bool, root: &[u8], serial: 
         at,
         explicit,
         REFERENCED_CLASS,
-        UI,
+        UI as usize,
         b"1.2.840.10008.5.1.1.4",
     );
-    put_element(out, p, explicit, REFERENCED_INSTANCE, UI, &uid[0..n])
+    put_element(
+        out,
+        p,
+        explicit,
+        REFERENCED_INSTANCE,
+        UI as usize,
+        &uid[0..n],
+    )
 }
 
 // The item of an image box from a place on: the place after it. Its header goes in last, since it tells the list's length.
@@ -212,7 +219,7 @@ pub fn put_film_boxes(
 {
     let start = sequence_header(explicit);
     let stop = put_boxes(out, start, explicit, root, first, count);
-    put_header(out, 0, explicit, BOX_SEQUENCE, SQ, stop - start);
+    put_header(out, 0, explicit, BOX_SEQUENCE, SQ as usize, stop - start);
     stop
 }
 

@@ -4,59 +4,59 @@ ghost use mathlib.Core.Path.{_≡_};
 ghost use Rattle.tags.specs.Table.{namedVr, formOf, implicitVr, differs};
 
 // A VR is its two letters as they stand in the bytes: a 16-bit number, little endian.
-pub const AE: usize = 0x4541;
+pub const AE: u32 = 0x4541;
 
-pub const AS: usize = 0x5341;
+pub const AS: u32 = 0x5341;
 
-pub const AT: usize = 0x5441;
+pub const AT: u32 = 0x5441;
 
-pub const CS: usize = 0x5343;
+pub const CS: u32 = 0x5343;
 
-pub const DA: usize = 0x4144;
+pub const DA: u32 = 0x4144;
 
-pub const DS: usize = 0x5344;
+pub const DS: u32 = 0x5344;
 
-pub const DT: usize = 0x5444;
+pub const DT: u32 = 0x5444;
 
-pub const FD: usize = 0x4446;
+pub const FD: u32 = 0x4446;
 
-pub const FL: usize = 0x4C46;
+pub const FL: u32 = 0x4C46;
 
-pub const IS: usize = 0x5349;
+pub const IS: u32 = 0x5349;
 
-pub const LO: usize = 0x4F4C;
+pub const LO: u32 = 0x4F4C;
 
-pub const LT: usize = 0x544C;
+pub const LT: u32 = 0x544C;
 
-pub const OB: usize = 0x424F;
+pub const OB: u32 = 0x424F;
 
-pub const OF: usize = 0x464F;
+pub const OF: u32 = 0x464F;
 
-pub const OW: usize = 0x574F;
+pub const OW: u32 = 0x574F;
 
-pub const PN: usize = 0x4E50;
+pub const PN: u32 = 0x4E50;
 
-pub const SH: usize = 0x4853;
+pub const SH: u32 = 0x4853;
 
-pub const SL: usize = 0x4C53;
+pub const SL: u32 = 0x4C53;
 
-pub const SQ: usize = 0x5153;
+pub const SQ: u32 = 0x5153;
 
-pub const SS: usize = 0x5353;
+pub const SS: u32 = 0x5353;
 
-pub const ST: usize = 0x5453;
+pub const ST: u32 = 0x5453;
 
-pub const TM: usize = 0x4D54;
+pub const TM: u32 = 0x4D54;
 
-pub const UI: usize = 0x4955;
+pub const UI: u32 = 0x4955;
 
-pub const UL: usize = 0x4C55;
+pub const UL: u32 = 0x4C55;
 
-pub const UN: usize = 0x4E55;
+pub const UN: u32 = 0x4E55;
 
-pub const US: usize = 0x5355;
+pub const US: u32 = 0x5355;
 
-pub const UT: usize = 0x5455;
+pub const UT: u32 = 0x5455;
 
 // "form one table of 35 rows": the named tags, each with its VR.
 const NAMED: [Row; 35] = [
@@ -137,8 +137,8 @@ pub fn form_of(vr: usize) -> usize
     let mut i = 0;
     while i < 27 {
         let row = rows[i];
-        if row.0 == vr {
-            return row.1;
+        if row.0 as usize == vr {
+            return row.1 as usize;
         }
         i += 1;
     }
@@ -153,8 +153,8 @@ pub fn named_vr(tag: usize) -> usize
     let mut i = 0;
     while i < 35 {
         let row = rows[i];
-        if row.0 == tag {
-            return row.1;
+        if row.0 as usize == tag {
+            return row.1 as usize;
         }
         i += 1;
     }
@@ -170,9 +170,9 @@ pub fn implicit_vr(tag: usize, length: usize) -> usize
         return named;
     }
     if length == 0xFFFF_FFFF {
-        return SQ;
+        return SQ as usize;
     }
-    UN
+    UN as usize
 }
 
 // Whether a VR is not that of the named tag that bears it.
@@ -189,7 +189,7 @@ pub fn vr_differs(tag: usize, vr: usize) -> bool
     if tag != 0x7FE0_0010 {
         return true;
     }
-    if vr == OB {
+    if vr == OB as usize {
         return false;
     }
     true

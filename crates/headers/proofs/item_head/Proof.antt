@@ -18,4 +18,4 @@ returns-3 c = simp (le-ltb _ _ (c .before .before .before .before .if1 .left), �
 
 pub item-head-spec : {M : Type 1} → statement M
 item-head-spec =
-    tie.close (tie.spec (λ c. search needs) returns (λ c κs. search needs) returns-2 (λ c. search needs) (λ c. search needs) (λ c κs. search needs) (λ c κs. search needs) returns-3)
+    tie.close (tie.spec (λ c. search needs) returns (λ c κs. search needs) returns-2 (λ c. search needs) (λ c. search needs) (λ c. search needs) (λ c κs. search needs) (λ c κs. search needs) returns-3)

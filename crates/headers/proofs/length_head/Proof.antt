@@ -30,4 +30,4 @@ returns-6 c = simp (ne-eqb _ _ (c .before .before .before .if1 .left), ne-eqb _ 
 
 pub length-head-spec : {M : Type 1} → statement M
 length-head-spec =
-    tie.close (tie.spec returns returns-2 returns-3 (λ c. search needs) returns-4 (λ c. search needs) returns-5 (λ c. search needs) returns-6)
+    tie.close (tie.spec (λ c. search needs) returns returns-2 returns-3 (λ c. search needs) returns-4 (λ c. search needs) (λ c. search needs) returns-5 (λ c. search needs) returns-6)

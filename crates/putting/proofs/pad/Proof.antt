@@ -1,4 +1,5 @@
 use borrow.Author.Tests.{eq-eqb, ne-eqb}
+use borrow.Author.Needs.{needs}
 use Rattle.putting.proofs.pad.Statement.{statement}
 use Rattle.putting.proofs.pad.Tie as tie
 
@@ -9,4 +10,4 @@ returns-2 : tie.Need-returns-2
 returns-2 c = simp (ne-eqb _ _ (c .if1 .left))
 
 pub pad-spec : {M : Type 1} → statement M
-pad-spec = tie.close (tie.spec returns returns-2)
+pad-spec = tie.close (tie.spec (λ c. search needs) returns returns-2)

@@ -39,4 +39,4 @@ returns c = let a = c .before .before .before .before .before .before .before .b
 pub put-box-list-spec : {M : Type 1} → statement M
 put-box-list-spec =
     tie.close
-    (tie.spec (λ c. search needs) (λ c κs. search needs) (λ c. search needs) put-element-requires (λ c. search needs) (λ c. search needs) part-put-element-end put-element-requires-2 (λ c. search needs) returns)
+    (tie.spec (λ c. search needs) (λ c κs. search needs) (λ c. search needs) (λ c. search needs) put-element-requires (λ c. search needs) (λ c. search needs) (λ c. search needs) part-put-element-end put-element-requires-2 (λ c. search needs) returns)

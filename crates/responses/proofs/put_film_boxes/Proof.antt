@@ -20,4 +20,4 @@ returns c = let a = c .before .before .before .before .before .before .before .b
 
 pub put-film-boxes-spec : {M : Type 1} → statement M
 put-film-boxes-spec =
-    tie.close (tie.spec (λ c κs. search needs) (λ c κs. search needs) (λ c. search needs) put-header-requires (λ c. search needs) returns)
+    tie.close (tie.spec (λ c κs. search needs) (λ c κs. search needs) (λ c. search needs) (λ c. search needs) put-header-requires (λ c. search needs) returns)

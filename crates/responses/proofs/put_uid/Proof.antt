@@ -24,4 +24,4 @@ returns-2 c = let a = c .before .before .before .before .before .before .before 
     rw (uid-some (a .tag) (now (a .uid)) (c .before .before .before .before .if1 .left)) (e .0, e .1, omega arith)
 
 pub put-uid-spec : {M : Type 1} → statement M
-put-uid-spec = tie.close (tie.spec returns put-element-requires (λ c. search needs) returns-2)
+put-uid-spec = tie.close (tie.spec returns (λ c. search needs) put-element-requires (λ c. search needs) returns-2)

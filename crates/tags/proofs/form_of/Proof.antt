@@ -20,7 +20,7 @@ unfolding formOf
 loop-holds c = (omega arith, refl)
 
 returns : tie.Need-returns Inv-loop μ-loop
-returns c = sym (c .before .before .before .before .loop .inv .1 ∙ look-here _ forms _ (c .before .before .before .before .loop .i) (search needs) (c .if1 .taken))
+returns c = sym (c .before .before .before .before .before .loop .inv .1 ∙ look-here _ forms _ (c .before .before .before .before .before .loop .i) (search needs) (c .before .if1 .taken))
 
 loop-again : tie.Need-loop-again Inv-loop μ-loop
 loop-again c = (search needs, c .before .before .before .before .loop .inv .1 ∙ look-on _ forms _ (c .before .before .before .before .loop .i) (search needs) (c .if1 .left))
@@ -35,6 +35,8 @@ form-of-spec =
     Inv-loop
     μ-loop
     loop-holds
+    (λ c. search needs)
+    (λ c. search needs)
     (λ c. search needs)
     (λ c. search needs)
     returns

@@ -18,4 +18,4 @@ returns-3 c = simp (← (c .before .before .named-vr .ensures), eq-eqb _ _ (c .b
 
 pub implicit-vr-spec : {M : Type 1} → statement M
 implicit-vr-spec =
-    tie.close (tie.spec (λ c κs. search needs) returns returns-2 returns-3)
+    tie.close (tie.spec (λ c κs. search needs) returns (λ c. search needs) returns-2 (λ c. search needs) returns-3)

@@ -26,4 +26,4 @@ returns-5 c = simp (← (c .before .before .before .before .named-vr .ensures), 
 
 pub vr-differs-spec : {M : Type 1} → statement M
 vr-differs-spec =
-    tie.close (tie.spec (λ c κs. search needs) returns returns-2 returns-3 returns-4 returns-5)
+    tie.close (tie.spec (λ c κs. search needs) returns returns-2 returns-3 (λ c. search needs) returns-4 returns-5)
