@@ -55,6 +55,17 @@ pub both-false : (b : Bool) → both b false ≡ false
 both-false true = refl
 both-false false = refl
 
+-- the same where a flag says whether all passed so far
+module _ {A : Type 0} (test : A → Bool) (xs : List A) (d : A) (i : ℕ) (flag : Bool) where
+  pub so-far-on : i < length xs → test (getD xs i d) ≡ true → both flag (every test (drop i xs)) ≡ both flag (every test (drop (i + 1) xs))
+  so-far-on h e = rw (every-on test xs d i h e)
+
+  pub so-far-not : i < length xs → test (getD xs i d) ≡ false → both flag (every test (drop i xs)) ≡ false
+  so-far-not h e = rw (every-not test xs d i h e) (both-false flag)
+
+pub so-far-end : {A : Type 0} (test : A → Bool) (xs : List A) (i : ℕ) (flag : Bool) → length xs ≤ i → both flag (every test (drop i xs)) ≡ flag
+so-far-end test xs i flag h = rw (every-end test xs i h) (both-true flag)
+
 -- of some tests the first fails, or holds, or is the only one
 pub all-stop : (b : Bool) (bs : List Bool) → b ≡ false → all (b ∷ bs) ≡ false
 unfolding every

@@ -6,18 +6,19 @@ ghost use lib.ListN.{take, drop};
 ghost use Rattle.uids.specs.Uids.{isUid, beginsWith};
 ghost use Rattle.rules.specs.Sound.{zeros, nameBlank, sentSound, madeSound, nameSound, numbersSound};
 
-// Whether all bytes from a place on are zeros.
+// Whether all bytes from a place on are zeros. The loop has no other way out, so that it is compiled to many bytes at once.
 pub fn zeros_from(s: &[u8], from: usize) -> bool
     ensures { λ r. ⌜ r ≡ zeros (drop from (now (s .entry))) ⌝ }
 {
+    let mut clear = true;
     let mut i = from;
     while i < s.len() {
         if s[i] != 0 {
-            return false;
+            clear = false;
         }
         i += 1;
     }
-    true
+    clear
 }
 
 pub fn all_zero(s: &[u8]) -> bool
