@@ -95,19 +95,21 @@ fn box_blank(b: ImageBox) -> bool
     true
 }
 
+// The loop has no other way out, as in names::zeros_from.
 fn boxes_blank_from(a: [ImageBox; 36], from: usize) -> bool
     ensures { λ r. ⌜ r ≡ every boxBlank (drop from a) ⌝ }
 {
     let xs = a;
+    let mut clear = true;
     let mut i = from;
     while i < 36 {
         let x = xs[i];
         if !box_blank(x) {
-            return false;
+            clear = false;
         }
         i += 1;
     }
-    true
+    clear
 }
 
 fn boxes_sound(count: usize, n: Numbers, a: [ImageBox; 36]) -> bool
