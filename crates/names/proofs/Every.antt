@@ -78,3 +78,8 @@ all-next b bs e = rw e
 pub all-one : (b : Bool) → all (b ∷ []) ≡ b
 unfolding every
 all-one b = both-true b
+
+-- one behind the first fails
+pub all-pass : (b : Bool) (bs : List Bool) → all bs ≡ false → all (b ∷ bs) ≡ false
+unfolding every
+all-pass b bs e = rw e (both-false b)

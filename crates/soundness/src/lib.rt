@@ -135,29 +135,30 @@ pub fn input_sound(o: Opened, i: Input) -> bool
     phase_sound(o.room, i)
 }
 
+// That UIDs differ is tested first: behind the other tests, all films would be copied once more for each loop over them.
 pub fn core_sound(k: Core) -> bool
     ensures { λ r. ⌜ r ≡ coreSound k ⌝ }
 {
     let n = k.numbers;
+    let session = k.session;
+    let shelf = k.shelf;
+    if !distinct::uids_apart(session, shelf) {
+        return false;
+    }
     if !names::numbers_sound(n) {
         return false;
     }
-    let session = k.session;
     if 1 < session.live {
         return false;
     }
     if !sessions::session_place_sound(n, session) {
         return false;
     }
-    let shelf = k.shelf;
     if !films::shelf_sound(n, session, shelf) {
         return false;
     }
     let queue = k.queue;
     if !entries::queue_sound(n, queue) {
-        return false;
-    }
-    if !distinct::uids_apart(session, shelf) {
         return false;
     }
     let opened = k.opened;
