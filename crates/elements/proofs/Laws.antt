@@ -3,28 +3,33 @@
 use mathlib.Core.Path.{_≡_, refl, subst, _∙_}
 use mathlib.Core.Bool.{Bool}
 use mathlib.Core.List.{List, [], _∷_}
-use Prim.Native.Nat.{ℕ, zero, suc, _+_, _-_, _≤_}
+use Prim.Native.Nat.{ℕ, zero, suc, _+_, _-_, _≤_, _<_}
 use native.Mathlib.Numerals.{sub-one}
 use native.Mathlib.Omega.{arith}
 use lib.Dec.{eqb}
 use lib.ListN.{length}
-use borrow.Author.Tests.{eq-eqb, ne-eqb}
-use Rattle.choice.proofs.Picks.{pick-cases}
+use borrow.Author.Tests.{eq-eqb, ne-eqb, ltb-false}
+use Rattle.choice.proofs.Picks.{pick-cases, first-cases}
 use Rattle.headers.specs.declared.Part.{Part}
 use Rattle.headers.specs.declared.Inside.{Inside}
 use Rattle.headers.specs.declared.Head.{Head}
 use Rattle.headers.specs.declared.Head.the-variants.{Fault, Value, Nest}
+use Rattle.headers.specs.declared.Close.{Close}
 use Rattle.headers.specs.declared.Close.the-variants.{Here, Not}
-use Rattle.headers.specs.Header.{tagAt, headAt, itemHeadAt, closeAt}
+use Rattle.headers.specs.Header.{tagAt, elementRules, headAt, itemHeadAt, closeAt}
 use Rattle.headers.proofs.Within.{Fits, HeadIn, head-in, item-head-in}
+use Rattle.elements.specs.declared.Read.{Read}
 use Rattle.elements.specs.declared.Read.the-variants.{Past, Refused}
 use Rattle.elements.specs.declared.Found.the-variants.{Missing}
 use Rattle.elements.specs.declared.Items.the-variants.{Empty, Several}
-use Rattle.elements.specs.Walk.{Next, again, done, follow, onward, onTrail}
-use Rattle.elements.specs.Reader.{itemEnd, sequenceEnd, orElse, Mark, start, listStep, listFrom, itemWith, itemStep, itemsFrom, elementAt, listAt, itemAt}
+use Rattle.elements.specs.Walk.{Next, again, done, follow, onward, onTrail, trail}
+use Rattle.elements.specs.Reader.{itemEnd, sequenceEnd, behind, orElse, Mark, start, listStep, listFrom, itemWith, itemStep, itemsFrom, elementAt, listAt, itemAt}
 use Rattle.elements.specs.Find.{elementsFrom, itemsOf, found, among, findAt, only, counted, itemsAt}
 use Rattle.elements.proofs.Within.{ReadIn, AllIn, FoundIn, ItemsIn}
 use Rattle.elements.proofs.Grammar.{place, ElemIn, element-in, item-in, list-unroll, items-unroll, elements-unroll, items-of-unroll, elements-in, items-of-in}
+
+abbrev mark : ℕ → ℕ → Mark
+mark at floor = record { at = at; floor = floor }
 
 -- One header.
 
@@ -66,6 +71,22 @@ unfolding elementAt
 element-nest s explicit zero end at floor z e = absurd (z refl)
 element-nest s explicit (suc room) end at floor z e = rw (e, sub-one (suc room))
 
+-- an element that is read has no tag below the floor
+abbrev AboveFloor : ℕ → ℕ → Read → Type 0
+AboveFloor floor tag r = (q : ℕ) → r ≡ Past q → floor ≤ tag
+
+behind-above : (s : List ℕ) (explicit : Bool) (end at floor : ℕ) (held : Inside → Read) → AboveFloor floor (tagAt s at) (behind held (headAt s explicit end at floor))
+unfolding headAt
+behind-above s explicit end at floor held =
+    first-cases (λ d. AboveFloor floor (tagAt s at) (behind held d)) Fault (elementRules s explicit end at floor) _
+    (λ n q e. let z : _≡_ {A = ℕ} 0 1 = cc in absurd (omega arith))
+    (λ k q e. ltb-false (tagAt s at) floor (k .1 .1 .0))
+
+pub element-above : (s : List ℕ) (explicit : Bool) (room end at floor : ℕ) → AboveFloor floor (tagAt s at) (elementAt s explicit room end at floor)
+unfolding elementAt
+element-above s explicit zero end at floor = behind-above s explicit end at floor _
+element-above s explicit (suc room) end at floor = behind-above s explicit end at floor _
+
 -- One item.
 
 module _ (s : List ℕ) (explicit : Bool) (room end at : ℕ) where
@@ -81,10 +102,26 @@ module _ (s : List ℕ) (explicit : Bool) (room end at : ℕ) where
   unfolding itemAt itemWith listAt
   item-nest e = rw e
 
--- One step of each walk.
+-- No tag below the floor is found any more.
 
-abbrev mark : ℕ → ℕ → Mark
-mark at floor = record { at = at; floor = floor }
+module _ (s : List ℕ) (explicit : Bool) (end tag : ℕ) where
+  on-trail-below : (m : Mark) (rest : Mark → List Mark) (k : Close) (r : Read) → tag < m .floor → ((y : Mark) → tag < y .floor → among s explicit end tag (rest y) ≡ Missing) → AboveFloor (m .floor) (tagAt s (m .at)) r → among s explicit end tag (onTrail m rest (orElse k (onward r (λ q. mark q (tagAt s (m .at) + 1))))) ≡ Missing
+  on-trail-below m rest (Here q) r h f g = refl
+  on-trail-below m rest Not (Past q) h f g = let t = g q refl in rw (ne-eqb (tagAt s (m .at)) tag (λ e. omega arith)) (f (mark q (tagAt s (m .at) + 1)) (omega arith))
+  on-trail-below m rest Not (Refused n) h f g = refl
+
+  trail-below : (room : ℕ) (inside : Inside) (fuel : ℕ) (m : Mark) → tag < m .floor → among s explicit end tag (trail (listStep (elementAt s explicit room) s inside) fuel m) ≡ Missing
+  unfolding trail listStep
+  trail-below room inside zero m h = refl
+  trail-below room inside (suc fuel) m h =
+      on-trail-below m _ (closeAt s itemEnd inside (m .at)) (elementAt s explicit room (inside .stop) (m .at) (m .floor)) h
+      (λ y g. trail-below room inside fuel y g) (element-above s explicit room (inside .stop) (m .at) (m .floor))
+
+  pub find-below : (room : ℕ) (inside : Inside) (m : Mark) → tag < m .floor → among s explicit end tag (elementsFrom s explicit room inside m) ≡ Missing
+  unfolding elementsFrom
+  find-below room inside m h = trail-below room inside (suc (inside .stop - m .at)) m h
+
+-- One step of each walk.
 
 module _ (s : List ℕ) (explicit : Bool) (room : ℕ) (inside : Inside) (at : ℕ) (h : at ≤ inside .stop) where
   items-on : itemsFrom (elementAt s explicit room) s inside at ≡ follow (λ y. itemsFrom (elementAt s explicit room) s inside y) (orElse (closeAt s sequenceEnd inside at) (onward (itemAt s explicit room (inside .stop) at) (λ q. q)))
@@ -152,6 +189,20 @@ module _ (s : List ℕ) (explicit : Bool) (room : ℕ) (inside : Inside) (at : �
 
       pub find-more : {q : ℕ} → closeAt s itemEnd inside at ≡ Not → elementAt s explicit room (inside .stop) at floor ≡ Past q → (tagAt s at ≡ tag → ⊥) → among s explicit (inside .stop) tag (elementsFrom s explicit room inside (mark at floor)) ≡ among s explicit (inside .stop) tag (elementsFrom s explicit room inside (mark q (tagAt s at + 1)))
       find-more k e t = rw (elements-on, k, e, ne-eqb _ _ t)
+
+      -- nothing is found here but in an element that is read
+      find-unread : closeAt s itemEnd inside at ≡ Not → ((q : ℕ) → elementAt s explicit room (inside .stop) at floor ≡ Past q → among s explicit (inside .stop) tag (elementsFrom s explicit room inside (mark at floor)) ≡ Missing) → among s explicit (inside .stop) tag (elementsFrom s explicit room inside (mark at floor)) ≡ Missing
+      find-unread k f = unread (elementAt s explicit room (inside .stop) at floor) refl
+        where
+          unread : (r : Read) → elementAt s explicit room (inside .stop) at floor ≡ r → among s explicit (inside .stop) tag (elementsFrom s explicit room inside (mark at floor)) ≡ Missing
+          unread (Past q) e = f q e
+          unread (Refused n) e = find-refused k e
+
+      pub find-short : closeAt s itemEnd inside at ≡ Not → inside .stop - at < 8 → among s explicit (inside .stop) tag (elementsFrom s explicit room inside (mark at floor)) ≡ Missing
+      find-short k l = find-unread k (λ q e. let b = element-past s explicit (inside .stop) at floor h room e in absurd (omega arith))
+
+      pub find-above : closeAt s itemEnd inside at ≡ Not → tag < tagAt s at → among s explicit (inside .stop) tag (elementsFrom s explicit room inside (mark at floor)) ≡ Missing
+      find-above k l = find-unread k (λ q e. find-more k e (λ t. omega arith) ∙ find-below s explicit (inside .stop) tag room inside (mark q (tagAt s at + 1)) (omega arith))
 
 -- The items, by how many there are.
 

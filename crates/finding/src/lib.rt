@@ -16,19 +16,27 @@ use headers::tag_at;
 ghost use mathlib.Core.Path.{_≡_};
 ghost use Prim.Native.Nat.{_≤_};
 ghost use lib.ListN.{length};
-ghost use Rattle.elements.specs.Find.{found, only, itemsOf, findAt, itemsAt};
+ghost use Rattle.headers.specs.Header.{headAt};
+ghost use Rattle.elements.specs.Reader.{elementAt};
+ghost use Rattle.elements.specs.Find.{only, itemsOf, findAt, itemsAt};
+ghost use Rattle.finding.specs.Gives.{gives};
 
-fn found_of(head: Head) -> Found
-    ensures { λ r. ⌜ r ≡ found head ⌝ }
+// What an element gives to the one who looks for its tag. A value is read with its header.
+fn given(s: &[u8], explicit: bool, room: usize, end: usize, at: usize, floor: usize) -> Found
+    requires { ⌜ (at ≤ end) × (end ≤ length (now s)) ⌝ }
+    ensures { λ r. ⌜ r ≡ gives (elementAt (now (s .entry)) explicit room end at floor) (headAt (now (s .entry)) explicit end at floor) ⌝ }
 {
-    match head {
+    match element_head(s, explicit, end, at, floor) {
         Head::Fault(_) => Found::Missing,
         Head::Value(part) => Found::Value(part),
-        Head::Nest(inside) => Found::Sequence(inside),
+        Head::Nest(inside) => match element(s, explicit, room, end, at, floor) {
+            Read::Past(_) => Found::Sequence(inside),
+            Read::Refused(_) => Found::Missing,
+        },
     }
 }
 
-// What a list holds under a tag.
+// What a list holds under a tag. Tags ascend, so that behind a higher one nothing is looked for.
 pub fn find(s: &[u8], explicit: bool, room: usize, inside: Inside, tag: usize) -> Found
     requires { ⌜ (inside .from ≤ inside .stop) × (inside .stop ≤ length (now s)) ⌝ }
     ensures { λ r. ⌜ r ≡ findAt (now (s .entry)) explicit room inside tag ⌝ }
@@ -40,12 +48,18 @@ pub fn find(s: &[u8], explicit: bool, room: usize, inside: Inside, tag: usize) -
         if let Close::Here(_) = close {
             return Found::Missing;
         }
+        if inside.stop - p < 8 {
+            return Found::Missing;
+        }
+        let t = tag_at(s, p);
+        if tag < t {
+            return Found::Missing;
+        }
+        if t == tag {
+            return given(s, explicit, room, inside.stop, p, floor);
+        }
         match element(s, explicit, room, inside.stop, p, floor) {
             Read::Past(q) => {
-                let t = tag_at(s, p);
-                if t == tag {
-                    return found_of(element_head(s, explicit, inside.stop, p, floor));
-                }
                 floor = t + 1;
                 p = q;
             }
