@@ -2,6 +2,7 @@
 use elements::Found;
 use elements::Read;
 use headers::Close;
+use headers::Head;
 use headers::Inside;
 use headers::Part;
 use rules::Action;
@@ -12,35 +13,154 @@ use rules::Request;
 use rules::Target;
 use rules::Verification;
 ghost use mathlib.Core.Path.{_≡_};
-ghost use Prim.Native.Nat.{_-_, _≤_, _<_};
+ghost use mathlib.Core.Bool.{false};
+ghost use Prim.Native.Nat.{_≤_, _<_};
+ghost use lib.Dec.{eqb};
 ghost use lib.ListN.{length, getD};
+ghost use Rattle.octets.specs.Octets.{numberAt};
 ghost use Rattle.uids.specs.Uids.{isUid, unpadded};
-ghost use Rattle.rules.specs.Commands.{inCommand, placed, hasNumber, numberIn, hasUid, hasTarget, isRead, groupZero, lengthTold, wellFormed, hasData, requestIn, understood};
+ghost use Rattle.headers.specs.Header.{headAt};
+ghost use Rattle.elements.specs.Reader.{elementAt};
+ghost use Rattle.elements.specs.Find.{found};
+ghost use Rattle.rules.specs.Commands.{inCommand, placed, size, uidAt, hasTarget, isRead, lengthTold, hasData, requestIn, understood};
+ghost use Rattle.commands.specs.Places.{slotOf, Holds, Gathers};
 ghost use Rattle.commands.specs.Requests.{hasNumbers, knownAs, targetIn, echoIn, creationIn, settingIn, actionIn, deletionIn};
 
-const LENGTH: usize = 0x0000_0000;
+// The places of a command: one for each element that is looked at, and one for all others.
+const LENGTH: usize = 0;
 
-const AFFECTED_CLASS: usize = 0x0000_0002;
+const AFFECTED_CLASS: usize = 1;
 
-const REQUESTED_CLASS: usize = 0x0000_0003;
+const REQUESTED_CLASS: usize = 2;
 
-const FIELD: usize = 0x0000_0100;
+const FIELD: usize = 3;
 
-const MESSAGE: usize = 0x0000_0110;
+const MESSAGE: usize = 4;
 
-const DATA_SET: usize = 0x0000_0800;
+const DATA_SET: usize = 5;
 
-const AFFECTED_INSTANCE: usize = 0x0000_1000;
+const AFFECTED_INSTANCE: usize = 6;
 
-const REQUESTED_INSTANCE: usize = 0x0000_1001;
+const REQUESTED_INSTANCE: usize = 7;
 
-const ACTION_TYPE: usize = 0x0000_1008;
+const ACTION_TYPE: usize = 8;
+
+const OTHERS: usize = 9;
+
+// The tag that says whether a data set comes.
+const DATA_SET_TYPE: usize = 0x0000_0800;
 
 const ITEM_END: usize = 0xFFFE_E00D;
 
+// Whether a command is whole, read to its end with all elements in group 0000, and then its places.
+struct Places {
+    whole: bool,
+    parts: [Part; 10],
+}
+
+// Which place is that of a tag.
+fn slot(tag: usize) -> usize
+    ensures { λ r. ⌜ (r ≡ slotOf tag) × (r < 10) ⌝ }
+{
+    if tag == 0x0000_0000 {
+        return LENGTH;
+    }
+    if tag == 0x0000_0002 {
+        return AFFECTED_CLASS;
+    }
+    if tag == 0x0000_0003 {
+        return REQUESTED_CLASS;
+    }
+    if tag == 0x0000_0100 {
+        return FIELD;
+    }
+    if tag == 0x0000_0110 {
+        return MESSAGE;
+    }
+    if tag == 0x0000_0800 {
+        return DATA_SET;
+    }
+    if tag == 0x0000_1000 {
+        return AFFECTED_INSTANCE;
+    }
+    if tag == 0x0000_1001 {
+        return REQUESTED_INSTANCE;
+    }
+    if tag == 0x0000_1008 {
+        return ACTION_TYPE;
+    }
+    OTHERS
+}
+
+// Where the value behind a header stands; an empty place where there is none.
+fn value_of(head: Head) -> Part
+    ensures { λ r. ⌜ r ≡ placed (found head) ⌝ }
+{
+    match head {
+        Head::Fault(_) => Part { from: 0, stop: 0 },
+        Head::Value(part) => part,
+        Head::Nest(_) => Part { from: 0, stop: 0 },
+    }
+}
+
+// An element whose header is judged already.
+fn behind(c: &[u8], at: usize, floor: usize, head: Head) -> Read
+    requires { ⌜ (at ≤ length (now c)) × (head ≡ headAt (now c) false (length (now c)) at floor) ⌝ }
+    ensures { λ r. ⌜ r ≡ elementAt (now (c .entry)) false 4 (length (now (c .entry))) at floor ⌝ }
+{
+    match head {
+        Head::Fault(n) => Read::Refused(n),
+        Head::Value(part) => Read::Past(part.stop),
+        Head::Nest(_) => elements::element(c, false, 4, c.len(), at, floor),
+    }
+}
+
+// Where each value of a command stands, by one walk over its elements.
+fn gathered(c: &[u8]) -> Places
+    ensures { λ r. ⌜ Gathers (now (c .entry)) r ⌝ }
+{
+    let whole = Inside {
+        from: 0,
+        stop: c.len(),
+        loose: false,
+    };
+    let mut parts = [Part { from: 0, stop: 0 }; 10];
+    let mut p = 0;
+    let mut floor = 0;
+    loop {
+        let close = headers::closing(c, ITEM_END, whole, p);
+        if let Close::Here(_) = close {
+            return Places { whole: true, parts };
+        }
+        let head = headers::element_head(c, false, whole.stop, p, floor);
+        match behind(c, p, floor, head) {
+            Read::Past(q) => {
+                let t = headers::tag_at(c, p);
+                if 65536 <= t {
+                    return Places {
+                        whole: false,
+                        parts,
+                    };
+                }
+                let k = slot(t);
+                let value = value_of(head);
+                parts[k] = value;
+                floor = t + 1;
+                p = q;
+            }
+            Read::Refused(_) => {
+                return Places {
+                    whole: false,
+                    parts,
+                };
+            }
+        }
+    }
+}
+
 // Where the value of a tag stands; an empty place where there is none.
 fn place(c: &[u8], tag: usize) -> Part
-    ensures { λ r. ⌜ (r ≡ placed (inCommand (now (c .entry)) tag)) × (r .from ≤ r .stop) × (r .stop ≤ length (now (c .entry))) × (r .stop - r .from ≤ r .stop - 8) ⌝ }
+    ensures { λ r. ⌜ (r ≡ placed (inCommand (now (c .entry)) tag)) × (r .from ≤ r .stop) × (r .stop ≤ length (now (c .entry))) ⌝ }
 {
     let whole = Inside {
         from: 0,
@@ -64,17 +184,17 @@ fn octet(c: &[u8], at: usize) -> u16
     c[at] as u16
 }
 
-fn number(c: &[u8], tag: usize) -> u16
-    ensures { λ r. ⌜ (r ≡ numberIn (now (c .entry)) tag) × (r < 65536) ⌝ }
+fn number(c: &[u8], p: Part) -> u16
+    requires { ⌜ (p .from ≤ p .stop) × (p .stop ≤ length (now c)) ⌝ }
+    ensures { λ r. ⌜ (r ≡ numberAt 2 (now (c .entry)) (p .from)) × (r < 65536) ⌝ }
 {
-    let at = place(c, tag).from;
-    octet(c, at) + 256 * octet(c, at + 1)
+    octet(c, p.from) + 256 * octet(c, p.from + 1)
 }
 
-fn has_number(c: &[u8], tag: usize) -> bool
-    ensures { λ r. ⌜ r ≡ hasNumber (now (c .entry)) tag ⌝ }
+fn has_number(p: Part) -> bool
+    requires { ⌜ p .from ≤ p .stop ⌝ }
+    ensures { λ r. ⌜ r ≡ eqb (size p) 2 ⌝ }
 {
-    let p = place(c, tag);
     p.stop - p.from == 2
 }
 
@@ -86,81 +206,35 @@ fn is_padded_uid(v: &[u8]) -> bool
     uids::is_uid(&v[0..n])
 }
 
-fn has_uid(c: &[u8], tag: usize) -> bool
-    ensures { λ r. ⌜ r ≡ hasUid (now (c .entry)) tag ⌝ }
+fn has_uid(c: &[u8], p: Part) -> bool
+    requires { ⌜ (p .from ≤ p .stop) × (p .stop ≤ length (now c)) ⌝ }
+    ensures { λ r. ⌜ r ≡ isUid (uidAt (now (c .entry)) p) ⌝ }
 {
-    let p = place(c, tag);
     let from = p.from;
     let stop = p.stop;
     is_padded_uid(&c[from..stop])
 }
 
-fn has_target(c: &[u8]) -> bool
+fn has_target(c: &[u8], places: [Part; 10]) -> bool
+    requires { ⌜ Holds (now c) places ⌝ }
     ensures { λ r. ⌜ r ≡ hasTarget (now (c .entry)) ⌝ }
 {
-    if !has_uid(c, REQUESTED_CLASS) {
+    if !has_uid(c, places[REQUESTED_CLASS]) {
         return false;
     }
-    has_uid(c, REQUESTED_INSTANCE)
-}
-
-// Whether all elements are in group 0000.
-fn group_zero(c: &[u8]) -> bool
-    ensures { λ r. ⌜ r ≡ groupZero (now (c .entry)) ⌝ }
-{
-    let whole = Inside {
-        from: 0,
-        stop: c.len(),
-        loose: false,
-    };
-    let mut p = 0;
-    let mut floor = 0;
-    loop {
-        let close = headers::closing(c, ITEM_END, whole, p);
-        if let Close::Here(_) = close {
-            return true;
-        }
-        match elements::element(c, false, 4, whole.stop, p, floor) {
-            Read::Past(q) => {
-                let t = headers::tag_at(c, p);
-                if 65536 <= t {
-                    return false;
-                }
-                floor = t + 1;
-                p = q;
-            }
-            Read::Refused(_) => {
-                return true;
-            }
-        }
-    }
+    has_uid(c, places[REQUESTED_INSTANCE])
 }
 
 // Whether the first element gives the bytes after it.
-fn length_told(c: &[u8]) -> bool
+fn length_told(c: &[u8], places: [Part; 10]) -> bool
+    requires { ⌜ Holds (now c) places ⌝ }
     ensures { λ r. ⌜ r ≡ lengthTold (now (c .entry)) ⌝ }
 {
-    let p = place(c, LENGTH);
+    let p = places[LENGTH];
     if p.stop - p.from != 4 {
         return false;
     }
     octets::u32_at(c, p.from) == c.len() - 12
-}
-
-// Whether a command set can be read as a request.
-fn well_formed(c: &[u8]) -> bool
-    ensures { λ r. ⌜ r ≡ wellFormed (now (c .entry)) ⌝ }
-{
-    if !is_read(elements::data_set(c, false)) {
-        return false;
-    }
-    if !group_zero(c) {
-        return false;
-    }
-    if !length_told(c) {
-        return false;
-    }
-    has_numbers(c)
 }
 
 pub fn is_read(read: Read) -> bool
@@ -173,137 +247,149 @@ pub fn is_read(read: Read) -> bool
 }
 
 // Whether the field, the message number and the data set type are there, and the field is a request's.
-fn has_numbers(c: &[u8]) -> bool
+fn has_numbers(c: &[u8], places: [Part; 10]) -> bool
+    requires { ⌜ Holds (now c) places ⌝ }
     ensures { λ r. ⌜ r ≡ hasNumbers (now (c .entry)) ⌝ }
 {
-    if !has_number(c, FIELD) {
+    if !has_number(places[FIELD]) {
         return false;
     }
-    if !has_number(c, MESSAGE) {
+    if !has_number(places[MESSAGE]) {
         return false;
     }
-    if !has_number(c, DATA_SET) {
+    if !has_number(places[DATA_SET]) {
         return false;
     }
-    number(c, FIELD) < 0x8000
+    number(c, places[FIELD]) < 0x8000
 }
 
 // Whether a data set comes with the command.
 pub fn has_data(c: &[u8]) -> bool
     ensures { λ r. ⌜ r ≡ hasData (now (c .entry)) ⌝ }
 {
-    if number(c, DATA_SET) == 0x0101 {
+    if number(c, place(c, DATA_SET_TYPE)) == 0x0101 {
         return false;
     }
     true
 }
 
-fn known(c: &[u8], operation: Operation) -> Command
+fn known(c: &[u8], places: [Part; 10], operation: Operation) -> Command
+    requires { ⌜ Holds (now c) places ⌝ }
     ensures { λ r. ⌜ r ≡ knownAs (now (c .entry)) operation ⌝ }
 {
     Command::Known(Request {
-        message: number(c, MESSAGE),
+        message: number(c, places[MESSAGE]),
         operation,
     })
 }
 
-fn echo(c: &[u8]) -> Command
+fn echo(c: &[u8], places: [Part; 10]) -> Command
+    requires { ⌜ Holds (now c) places ⌝ }
     ensures { λ r. ⌜ r ≡ echoIn (now (c .entry)) ⌝ }
 {
-    if !has_uid(c, AFFECTED_CLASS) {
+    if !has_uid(c, places[AFFECTED_CLASS]) {
         return Command::Unreadable;
     }
     known(
         c,
+        places,
         Operation::Echo(Verification {
-            class: place(c, AFFECTED_CLASS),
+            class: places[AFFECTED_CLASS],
         }),
     )
 }
 
-fn creation(c: &[u8]) -> Command
+fn creation(c: &[u8], places: [Part; 10]) -> Command
+    requires { ⌜ Holds (now c) places ⌝ }
     ensures { λ r. ⌜ r ≡ creationIn (now (c .entry)) ⌝ }
 {
-    if !has_uid(c, AFFECTED_CLASS) {
+    if !has_uid(c, places[AFFECTED_CLASS]) {
         return Command::Unreadable;
     }
     known(
         c,
+        places,
         Operation::Create(Creation {
-            class: place(c, AFFECTED_CLASS),
-            sent: place(c, AFFECTED_INSTANCE),
+            class: places[AFFECTED_CLASS],
+            sent: places[AFFECTED_INSTANCE],
         }),
     )
 }
 
-fn target(c: &[u8]) -> Target
+fn target(c: &[u8], places: [Part; 10]) -> Target
+    requires { ⌜ Holds (now c) places ⌝ }
     ensures { λ r. ⌜ r ≡ targetIn (now (c .entry)) ⌝ }
 {
     Target {
-        class: place(c, REQUESTED_CLASS),
-        instance: place(c, REQUESTED_INSTANCE),
+        class: places[REQUESTED_CLASS],
+        instance: places[REQUESTED_INSTANCE],
     }
 }
 
-fn setting(c: &[u8]) -> Command
+fn setting(c: &[u8], places: [Part; 10]) -> Command
+    requires { ⌜ Holds (now c) places ⌝ }
     ensures { λ r. ⌜ r ≡ settingIn (now (c .entry)) ⌝ }
 {
-    if !has_target(c) {
+    if !has_target(c, places) {
         return Command::Unreadable;
     }
-    known(c, Operation::Set(target(c)))
+    known(c, places, Operation::Set(target(c, places)))
 }
 
-fn action(c: &[u8]) -> Command
+fn action(c: &[u8], places: [Part; 10]) -> Command
+    requires { ⌜ Holds (now c) places ⌝ }
     ensures { λ r. ⌜ r ≡ actionIn (now (c .entry)) ⌝ }
 {
-    if !has_target(c) {
+    if !has_target(c, places) {
         return Command::Unreadable;
     }
-    if !has_number(c, ACTION_TYPE) {
+    if !has_number(places[ACTION_TYPE]) {
         return Command::Unreadable;
     }
     known(
         c,
+        places,
         Operation::Act(Action {
-            class: place(c, REQUESTED_CLASS),
-            instance: place(c, REQUESTED_INSTANCE),
-            kind: number(c, ACTION_TYPE),
+            class: places[REQUESTED_CLASS],
+            instance: places[REQUESTED_INSTANCE],
+            kind: number(c, places[ACTION_TYPE]),
         }),
     )
 }
 
-fn deletion(c: &[u8]) -> Command
+fn deletion(c: &[u8], places: [Part; 10]) -> Command
+    requires { ⌜ Holds (now c) places ⌝ }
     ensures { λ r. ⌜ r ≡ deletionIn (now (c .entry)) ⌝ }
 {
-    if !has_target(c) {
+    if !has_target(c, places) {
         return Command::Unreadable;
     }
-    known(c, Operation::Delete(target(c)))
+    known(c, places, Operation::Delete(target(c, places)))
 }
 
 // The request, by its field.
-fn request(c: &[u8]) -> Command
+fn request(c: &[u8], places: [Part; 10]) -> Command
+    requires { ⌜ Holds (now c) places ⌝ }
     ensures { λ r. ⌜ r ≡ requestIn (now (c .entry)) ⌝ }
 {
-    let field = number(c, FIELD);
+    let field = number(c, places[FIELD]);
     if field == 0x0030 {
-        return echo(c);
+        return echo(c, places);
     }
     if field == 0x0140 {
-        return creation(c);
+        return creation(c, places);
     }
     if field == 0x0120 {
-        return setting(c);
+        return setting(c, places);
     }
     if field == 0x0130 {
-        return action(c);
+        return action(c, places);
     }
     if field == 0x0150 {
-        return deletion(c);
+        return deletion(c, places);
     }
     Command::Unknown {
-        message: number(c, MESSAGE),
+        message: number(c, places[MESSAGE]),
         field,
     }
 }
@@ -312,8 +398,16 @@ fn request(c: &[u8]) -> Command
 pub fn understood(c: &[u8]) -> Command
     ensures { λ r. ⌜ r ≡ understood (now (c .entry)) ⌝ }
 {
-    if !well_formed(c) {
+    let walked = gathered(c);
+    if !walked.whole {
         return Command::Unreadable;
     }
-    request(c)
+    let places = walked.parts;
+    if !length_told(c, places) {
+        return Command::Unreadable;
+    }
+    if !has_numbers(c, places) {
+        return Command::Unreadable;
+    }
+    request(c, places)
 }

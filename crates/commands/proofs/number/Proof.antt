@@ -1,14 +1,18 @@
-use mathlib.Core.Path.{ap, _∙_}
-use Rattle.octets.specs.Octets.{numberAt}
 use Rattle.commands.proofs.Laws.{two-bytes}
 use borrow.Author.Needs.{needs}
 use Rattle.commands.proofs.number.Statement.{statement}
 use Rattle.commands.proofs.number.Tie as tie
 
 returns : tie.Need-returns
-returns c =
-    (rw (c .before .octet .ensures .0, c .octet2 .ensures .0) (two-bytes _ _ ∙ ap (λ p. numberAt 2 (c .before .before .before .before .args .c .now) (p .from)) (c .before .before .place .ensures .0)), search needs)
+returns c = (rw (c .before .before .octet .ensures .0, c .octet2 .ensures .0) (two-bytes _ _), search needs)
 
 pub number-spec : {M : Type 1} → statement M
 number-spec =
-    tie.close (tie.spec (λ c κs. search needs) (λ c κs. search needs) (λ c. search needs) (λ c κs. search needs) (λ c. search needs) (λ c. search needs) returns)
+    tie.close
+    (tie.spec
+    (λ c κs. search needs)
+    (λ c. search needs)
+    (λ c κs. search needs)
+    (λ c. search needs)
+    (λ c. search needs)
+    returns)

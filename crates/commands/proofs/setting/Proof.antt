@@ -1,6 +1,6 @@
-use Rattle.commands.specs.Requests.{settingIn, knownAs, targetIn}
 use mathlib.Core.Path.{_∙_}
 use borrow.Author.Tests.{not-false, not-true}
+use Rattle.commands.specs.Requests.{settingIn, knownAs, targetIn}
 use borrow.Author.Needs.{needs}
 use Rattle.commands.proofs.setting.Statement.{statement}
 use Rattle.commands.proofs.setting.Tie as tie
@@ -15,4 +15,10 @@ returns-2 c = c .known .ensures ∙ simp (← (c .before .before .before .has-ta
 
 pub setting-spec : {M : Type 1} → statement M
 setting-spec =
-    tie.close (tie.spec (λ c κs. search needs) returns (λ c κs. search needs) (λ c κs. search needs) returns-2)
+    tie.close
+    (tie.spec
+    (λ c κs. search needs)
+    returns
+    (λ c κs. search needs)
+    (λ c κs. search needs)
+    returns-2)
