@@ -1,5 +1,6 @@
 #include "sheets.h"
 
+#include <stdbool.h>
 #include <stdio.h>
 #include <string.h>
 
@@ -7,8 +8,9 @@
 #include "../include/gateway_records.h"
 #include "data_sets.h"
 
+/* Lines of boxes, so many in each: rows or, where it is turned, columns. */
 struct sheet {
-    uint8_t lines, counts[GATEWAY_LINES];
+    uint8_t turned, lines, counts[GATEWAY_LINES];
 };
 
 /* By ticket: those of the entries in the queue are sixteen in a row at most. */
@@ -27,6 +29,7 @@ static void keep_layout(const uint8_t *records, const uint8_t *entry)
         const uint8_t *film = records + GATEWAY_AT_FILMS + i * GATEWAY_FILM_BYTES;
         if (memcmp(film + GATEWAY_FILM_NAME, entry + GATEWAY_QUEUED_NAME, GATEWAY_NAME_BYTES) != 0)
             continue;
+        sheet->turned = film[GATEWAY_FILM_TURNED];
         sheet->lines = film[GATEWAY_FILM_LINES];
         memcpy(sheet->counts, film + GATEWAY_FILM_COUNTS, GATEWAY_LINES);
     }
@@ -39,42 +42,86 @@ void keep_layouts(const uint8_t *records, size_t queued)
         keep_layout(records, records + GATEWAY_AT_QUEUED + i * GATEWAY_QUEUED_BYTES);
 }
 
-/* A box is so wide that the longest number fits. */
-enum { WIDTH = 12 };
-
-static void draw_edge(unsigned boxes)
+/* The position, from 0, of the box in a row and a column; -1 where there is none. */
+static int box_at(const struct sheet *sheet, int row, int column)
 {
-    printf("         ");
-    for (unsigned i = 0; i < boxes; i++)
-        printf("+%.*s", WIDTH, "--------------------");
-    puts("+");
+    int line = sheet->turned ? column : row, place = sheet->turned ? row : column;
+    if (row < 0 || line >= sheet->lines || place >= sheet->counts[line])
+        return -1;
+    for (int i = 0; i < line; i++)
+        place += sheet->counts[i];
+    return place;
 }
 
-static void draw_box(uint32_t number)
+/* A box is so wide that the longest number fits; with its left edge it takes one place more. */
+enum { WIDTH = 12, STEP = WIDTH + 1 };
+
+struct drawn {
+    char text[GATEWAY_LINES * STEP + 2];
+};
+
+static struct drawn nothing_drawn(void)
 {
-    char text[WIDTH + 1] = "empty";
-    if (number != 0)
-        snprintf(text, sizeof text, "%u", (unsigned)number);
-    int before = (WIDTH - (int)strlen(text)) / 2;
-    printf("|%*s%-*s", before, "", WIDTH - before, text);
+    struct drawn d;
+    memset(d.text, ' ', sizeof d.text);
+    d.text[sizeof d.text - 1] = 0;
+    return d;
 }
 
-static void draw_line(const uint8_t *pictures, unsigned boxes)
+static void show_drawn(struct drawn *d)
 {
-    draw_edge(boxes);
-    printf("         ");
-    for (unsigned i = 0; i < boxes; i++)
-        draw_box((uint32_t)number_at(pictures + 4 * i, 4));
-    puts("|");
+    size_t n = strlen(d->text);
+    while (n > 0 && d->text[n - 1] == ' ')
+        n--;
+    printf("         %.*s\n", (int)n, d->text);
+}
+
+/* The edge between a row and the one above it. */
+static void draw_edge(const struct sheet *sheet, int row)
+{
+    struct drawn d = nothing_drawn();
+    for (int column = 0; column < GATEWAY_LINES; column++) {
+        if (box_at(sheet, row - 1, column) < 0 && box_at(sheet, row, column) < 0)
+            continue;
+        memset(d.text + column * STEP, '-', STEP);
+        d.text[column * STEP] = d.text[(column + 1) * STEP] = '+';
+    }
+    show_drawn(&d);
+}
+
+static void draw_row(const struct sheet *sheet, int row, const uint8_t *pictures)
+{
+    struct drawn d = nothing_drawn();
+    for (int column = 0; column < GATEWAY_LINES; column++) {
+        int at = box_at(sheet, row, column);
+        if (at < 0)
+            continue;
+        char text[WIDTH + 1] = "empty";
+        unsigned number = (unsigned)number_at(pictures + 4 * at, 4);
+        if (number != 0)
+            snprintf(text, sizeof text, "%u", number);
+        size_t length = strlen(text);
+        memcpy(d.text + column * STEP + 1 + (WIDTH - length) / 2, text, length);
+        d.text[column * STEP] = d.text[(column + 1) * STEP] = '|';
+    }
+    show_drawn(&d);
+}
+
+static bool has_row(const struct sheet *sheet, int row)
+{
+    for (int column = 0; column < GATEWAY_LINES; column++)
+        if (box_at(sheet, row, column) >= 0)
+            return true;
+    return false;
 }
 
 void draw_film(const uint8_t *entry)
 {
     const struct sheet *sheet = sheet_of(entry + GATEWAY_ENTRY_TICKET);
-    const uint8_t *pictures = entry + GATEWAY_ENTRY_PICTURES;
-    for (unsigned line = 0; line < sheet->lines; line++) {
-        draw_line(pictures, sheet->counts[line]);
-        pictures += 4 * sheet->counts[line];
+    int row = 0;
+    for (; has_row(sheet, row); row++) {
+        draw_edge(sheet, row);
+        draw_row(sheet, row, entry + GATEWAY_ENTRY_PICTURES);
     }
-    draw_edge(sheet->counts[0]);
+    draw_edge(sheet, row);
 }

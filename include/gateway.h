@@ -25,7 +25,7 @@ extern "C" {
 #endif
 
 /* How many bytes each buffer has at least. More may be lent: bytes past those written stay. */
-#define GATEWAY_RECORDS 7072
+#define GATEWAY_RECORDS 7080
 #define GATEWAY_COMMAND 256 /* a response's command set */
 #define GATEWAY_DATA 8192   /* a created film's data set */
 #define GATEWAY_REPORT 20   /* what a response comes to */

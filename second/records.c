@@ -38,7 +38,7 @@ struct film default_film(void)
 
 unsigned box_count(const struct film *film)
 {
-    return film->columns * film->rows;
+    return film->format.boxes;
 }
 
 /* ---- live UIDs ---- */
@@ -160,7 +160,7 @@ static void read_format(struct findings *f, const struct part *list, struct film
 {
     struct value v;
     if (mandatory(f, find_value(list, TAG(0x2010, 0x0010), TRAILING_DO_NOT, &v)))
-        allow(f, format_of(&v, &film->columns, &film->rows));
+        allow(f, format_of(&v, &film->format));
 }
 
 /* A mandatory UI that must be this one; NULL where none would do. */
@@ -414,7 +414,7 @@ static void dump_film(const struct film *film)
 {
     printf("| film");
     dump_uid("uid", &film->uid);
-    printf(" format=%u,%u orientation=%s magnification=%s\n", film->columns, film->rows,
+    printf(" format=%s orientation=%s magnification=%s\n", film->format.text,
            orientations[film->orientation], magnifications[film->magnification]);
     for (unsigned i = 0; i < box_count(film); i++) {
         const struct box *box = &film->boxes[i];

@@ -21,18 +21,17 @@ struct session {
 
 struct box {
     struct uid uid;
-    unsigned position; /* 1 to C x R */
+    unsigned position; /* 1 to the number of the film's boxes */
     int polarity;
     uint32_t picture; /* 0: not filled */
 };
 
 struct film {
     struct uid uid;
-    unsigned columns;
-    unsigned rows;
+    struct format format;
     int orientation;
     int magnification;
-    struct box boxes[BOXES_MOST]; /* columns x rows of them */
+    struct box boxes[BOXES_MOST]; /* as many as the format has */
 };
 
 struct entry {

@@ -87,14 +87,62 @@ static bool count_of(uint8_t c, unsigned *count)
     return true;
 }
 
-bool format_of(const struct value *value, unsigned *columns, unsigned *rows)
+/* Whether a text begins with a word. */
+static bool begins(const struct value *value, const char *word)
+{
+    size_t n = strlen(word);
+    return value->length >= n && memcmp(value->bytes, word, n) == 0;
+}
+
+/* Numbers 1 to 6 with a comma between two, `most` at most: how many, and their product and sum. */
+struct numbers {
+    unsigned count;
+    unsigned product;
+    unsigned sum;
+};
+
+static bool numbers_of(const uint8_t *text, size_t length, unsigned most, struct numbers *n)
+{
+    *n = (struct numbers){ 0, 1, 0 };
+    CHECK(length % 2 == 0, false, "Format: no number at the end");
+    CHECK(length > 2 * (size_t)most - 1, false, "Format: too many numbers");
+    for (size_t i = 0; i < length; i++) {
+        unsigned count;
+        if (i % 2 == 1) {
+            CHECK(text[i] != ',', false, "Format: no comma");
+            continue;
+        }
+        CHECK(!count_of(text[i], &count), false, "Format: a number not 1 to 6");
+        n->count++;
+        n->product *= count;
+        n->sum += count;
+    }
+    return true;
+}
+
+bool format_of(const struct value *value, struct format *format)
 {
     static const char standard[] = "STANDARD\\";
-    size_t n = sizeof standard - 1;
-    CHECK(value->length != n + 3, false, "Format: of another length");
-    CHECK(memcmp(value->bytes, standard, n) != 0, false, "Format: not STANDARD");
-    CHECK(value->bytes[n + 1] != ',', false, "Format: no comma");
-    CHECK(!count_of(value->bytes[n], columns), false, "Format: columns not 1 to 6");
-    CHECK(!count_of(value->bytes[n + 2], rows), false, "Format: rows not 1 to 6");
+    size_t word = strlen(standard);
+    struct numbers n;
+    if (begins(value, standard)) {
+        if (!numbers_of(value->bytes + word, value->length - word, 2, &n))
+            return false;
+        CHECK(n.count != 2, false, "Format: rows are missing");
+        format->boxes = n.product;
+    } else {
+        /* "Take 1 to 6 numbers, each 1 to 6." */
+        CHECK(!begins(value, "ROW\\") && !begins(value, "COL\\"), false, "Format: of another kind");
+        word = strlen("ROW\\");
+        if (!numbers_of(value->bytes + word, value->length - word, 6, &n))
+            return false;
+        if (begins(value, "ROW\\"))
+            COVER("Format: ROW");
+        else
+            COVER("Format: COL");
+        format->boxes = n.sum;
+    }
+    memcpy(format->text, value->bytes, value->length);
+    format->text[value->length] = 0;
     return true;
 }

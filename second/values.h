@@ -32,7 +32,15 @@ bool short_of(const struct value *value, uint16_t *number);
 /* LO, as Label has it. */
 bool is_label(const struct value *value);
 
-/* ST `STANDARD\C,R`. */
-bool format_of(const struct value *value, unsigned *columns, unsigned *rows);
+/* A film's format: its text, and how many boxes it has. */
+enum { FORMAT_MOST = 15 };
+
+struct format {
+    char text[FORMAT_MOST + 1];
+    unsigned boxes;
+};
+
+/* ST `STANDARD\C,R`, or by R-1 `ROW\r1,r2,..` or `COL\c1,c2,..`. */
+bool format_of(const struct value *value, struct format *format);
 
 #endif

@@ -26,20 +26,20 @@ void fill_records(uint8_t *records)
     memcpy(records + 128, "LABEL", 5);
     records[192] = 8;
     for (uint32_t i = 0; i < 8; i++) {
-        size_t film = 193 + 298 * i;
+        size_t film = 193 + 299 * i;
         put(records, film, 4, 10 + 50 * i);
-        records[film + 69] = 6;
-        memset(records + film + 70, 6, 6);
-        records[film + 77] = 2;
-        put(records, film + 78, 4, 11 + 50 * i);
+        records[film + 70] = 6;
+        memset(records + film + 71, 6, 6);
+        records[film + 78] = 2;
+        put(records, film + 79, 4, 11 + 50 * i);
         for (uint32_t j = 0; j < 36; j++) {
-            records[film + 82 + 6 * j] = (uint8_t)(j + 1);
-            put(records, film + 84 + 6 * j, 4, 36 * i + j + 1);
+            records[film + 83 + 6 * j] = (uint8_t)(j + 1);
+            put(records, film + 85 + 6 * j, 4, 36 * i + j + 1);
         }
     }
-    records[2577] = 16;
+    records[2585] = 16;
     for (uint32_t i = 0; i < 16; i++) {
-        size_t entry = 2578 + 216 * i;
+        size_t entry = 2586 + 216 * i;
         for (uint32_t p = 0; p < 36; p++)
             put(records, entry + 4 * p, 4, p + 1);
         put(records, entry + 144, 2, i);
@@ -47,6 +47,6 @@ void fill_records(uint8_t *records)
         records[entry + 151] = 9;
         memcpy(records + entry + 152, "1.9.70.15", 9);
     }
-    records[6034] = records[6035] = records[6036] = 1;
-    put(records, 6037, 4, GATEWAY_MESSAGE_LEAST);
+    records[6042] = records[6043] = records[6044] = 1;
+    put(records, 6045, 4, GATEWAY_MESSAGE_LEAST);
 }

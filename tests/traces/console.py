@@ -10,9 +10,8 @@ COMMAND_MOST = 1024
 
 
 class Film:
-    def __init__(self, name, columns, rows, boxes):
-        self.uid, self.columns, self.rows = name, columns, rows
-        self.boxes = boxes
+    def __init__(self, name, boxes):
+        self.uid, self.boxes = name, boxes
         self.places = list(range(1, len(boxes) + 1))
         self.pictures = [0] * len(boxes)
 
@@ -230,10 +229,17 @@ class Console:
         return [(0x00081150, "UI", uid(SESSION)), (0x00081155, "UI", uid(self.session or "1.2"))]
 
     def create_film(self, columns, rows, sent=None, extra=()):
+        return self.create_film_of(f"STANDARD\\{columns},{rows}", columns * rows, sent, extra)
+
+    def create_uneven_film(self, word, counts, sent=None, extra=()):
+        """R-1: ROW or COL with a count for each row or column."""
+        return self.create_film_of(word + "\\" + ",".join(map(str, counts)), sum(counts), sent, extra)
+
+    def create_film_of(self, layout, count, sent, extra):
         request = self.request(N_CREATE, FILM, sent)
         spaces = self.rng.choice(("", "", "  ", " "))
-        data = self.encode(self.film_rows(f"STANDARD\\{columns},{rows}" + spaces, extra))
-        needed = columns * rows + (0 if sent else 1)
+        data = self.encode(self.film_rows(layout + spaces, extra))
+        needed = count + (0 if sent else 1)
         if self.session is None:
             self.count("0106H film without session")
             self.ask(request, data, request.response(0x0106, sent or None))
@@ -243,7 +249,7 @@ class Console:
             self.ask(request, data, request.response(0x0213, sent or None))
             return None
         name = sent or self.next_uid()
-        film = Film(name, columns, rows, [self.next_uid() for _ in range(columns * rows)])
+        film = Film(name, [self.next_uid() for _ in range(count)])
         self.films.append(film)
         boxes = [[(0x00081150, "UI", uid(BOX)), (0x00081155, "UI", uid(b))] for b in film.boxes]
         answer = elements([(0x20100510, "SQ", boxes)], self.syntax)

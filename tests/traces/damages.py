@@ -291,9 +291,11 @@ def session_values(c):
 
 
 FORMATS_WRONG = (b"STANDARD\\7,1", b"STANDARD\\1,7", b"STANDARD\\0,1", b"STANDARD\\1,0", b"STANDARD\\01,1 ",
-                 b"STANDARD\\1-1", b" STANDARD\\1,1 ", b"STANDARD\\1,1\0\0", b"ROW\\1,2 ", b"COL\\2,1 ",
+                 b"STANDARD\\1-1", b" STANDARD\\1,1 ", b"STANDARD\\1,1\0\0", b"STANDARD\\3 ", b"COL\\7 ", b"ROW\\",
                  b"standard\\1,1", b"STANDARD/1,1", b"STANDARD\\1,1,1 ", b"STANDARD\\11", b"STANDARD1,12",
-                 b"STANDARD\\ 1,1 ", b"STANDARD\\1, 1 ", b"STANDARD\\A,1", b"STANDARD\\1,\0", b"STANDARD\\1,:")
+                 b"STANDARD\\ 1,1 ", b"STANDARD\\1, 1 ", b"STANDARD\\A,1", b"STANDARD\\1,\0", b"STANDARD\\1,:",
+                 b"ROW\\1,2, ", b"ROW\\1,0,2 ", b"COL\\1,1,1,1,1,1,1 ", b"COL\\12", b"COL\\1-2 ", b"row\\1,2 ",
+                 b"ROWS\\1 ", b"COL1,2 ", b"ROW\\1,2\0", b" COL\\1")
 FILM_WRONG = [(0x20100040, "CS", [b"portrait", b"LANDSCAPE\0", b"PORTRAIT\\LANDSCAPE", b"UP"]),
               (0x20100060, "CS", [b"LINEAR", b"NONE\\CUBIC ", b"BI LINEAR ", b"CUBIC\0"])]
 FILM_RIGHT = [(0x20100040, "CS", [b"PORTRAIT", b"LANDSCAPE ", b" PORTRAIT "]),

@@ -56,11 +56,20 @@ def add_session(c):
     c.create_session(new_uid(c), copies, rows)
 
 
+def film_extra(c):
+    return right(c.rng, FILM_RIGHT)[0] + console_rows(c, "film")
+
+
 def add_film(c, columns=None, rows=None):
     rng = c.rng
     columns, rows = columns or rng.choice((1, 1, 2, 2, 3, 4, 6)), rows or rng.choice((1, 1, 2, 2, 3, 5, 6))
-    extra = right(rng, FILM_RIGHT)[0] + console_rows(c, "film")
-    return c.create_film(columns, rows, new_uid(c), extra)
+    return c.create_film(columns, rows, new_uid(c), film_extra(c))
+
+
+def add_uneven_film(c):
+    rng = c.rng
+    counts = [rng.choice((1, 1, 2, 3, 6)) for _ in range(rng.choice((1, 2, 3, 6)))]
+    return c.create_uneven_film(rng.choice(("ROW", "COL")), counts, new_uid(c), film_extra(c))
 
 
 def box_extra(c):
@@ -135,8 +144,8 @@ def sound_step(c):
     if c.session is None:
         steps += [(30, add_session), (1, add_film)]
     else:
-        steps += [(60 if c.crowded else 12, add_film), (2, add_session), (2, Damaged.delete_session),
-                  (6, Damaged.print_session), (4, set_session)]
+        steps += [(60 if c.crowded else 12, add_film), (4, add_uneven_film), (2, add_session),
+                  (2, Damaged.delete_session), (6, Damaged.print_session), (4, set_session)]
     if c.films:
         steps += [(25, fill), (8, move), (8, print_one), (3, delete_one), (3, delete_twice), (4, set_one)]
     rng.choices([s for _, s in steps], [w for w, _ in steps])[0](c)

@@ -113,6 +113,24 @@ def colliding():
     return c
 
 
+def uneven():
+    """R-1: rows and columns of their own counts; the last box, and a position behind it."""
+    c = Damaged(random.Random(9))
+    c.start("1.9.7", 1, 1)
+    c.open(1, EXPLICIT, 4096)
+    c.create_session()
+    films = [c.create_uneven_film(word, counts) for word, counts in
+             (("ROW", (2, 1, 3)), ("COL", (6, 5, 4, 3, 2, 1)), ("ROW", (6,) * 6), ("COL", (1,)))]
+    for film in films:
+        last = len(film.boxes)
+        fill(c, film, last - 1, last)
+        c.fails(0x0106, c.request(N_SET, BOX, film.boxes[0]), c.encode([(0x20200010, "US", u16(last + 1))]))
+    c.print_session()
+    for _ in films:
+        c.take()
+    return c
+
+
 def last_numbers():
     """The last serial and the last picture number, and then none."""
     c = Damaged(random.Random(6))
@@ -185,6 +203,7 @@ def kept_traces():
         yield f"near-the-end-{seed}", sound_trace(seed, 25, True)
     yield "full-queue", full_queue()
     yield "colliding-positions", colliding()
+    yield "uneven-films", uneven()
     yield "last-numbers", last_numbers()
     yield "nine-films", nine_films()
     yield "wild-1", wild_trace(21)

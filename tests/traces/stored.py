@@ -62,8 +62,18 @@ def boxes_of(first, count, changes=()):
 def film_columns_first():
     c = begin()
     c.create_film(3, 2)
-    film = FILM_LINE.format("1.9.7.101", "3,2", "PORTRAIT", "BILINEAR")
+    film = FILM_LINE.format("1.9.7.101", "STANDARD\\3,2", "PORTRAIT", "BILINEAR")
     return c, [NEXT.format(108, 1, 0), SESSION_LINE.format(*DEFAULTS), film] + boxes_of(102, 6)
+
+
+def films_uneven():
+    """R-1: as many boxes as the counts make together."""
+    c = begin()
+    c.create_uneven_film("ROW", (2, 1, 3))
+    c.create_uneven_film("COL", (1,))
+    return c, [NEXT.format(110, 1, 0), SESSION_LINE.format(*DEFAULTS),
+               FILM_LINE.format("1.9.7.101", "ROW\\2,1,3", "PORTRAIT", "BILINEAR")] + boxes_of(102, 6) + \
+        [FILM_LINE.format("1.9.7.108", "COL\\1", "PORTRAIT", "BILINEAR")] + boxes_of(109, 1)
 
 
 def film_set():
@@ -77,8 +87,8 @@ def film_set():
     rows = [(0x20100040, "CS", b"LANDSCAPE "), (0x20100060, "CS", b"LINEAR")]
     c.ask(request, c.encode(rows), request.response(0x0106, film.uid))
     return c, [NEXT.format(105, 1, 0), SESSION_LINE.format(*DEFAULTS),
-               FILM_LINE.format("1.9.7.101", "1,1", "LANDSCAPE", "BILINEAR")] + boxes_of(102, 1) + \
-        [FILM_LINE.format("1.9.7.103", "1,1", "PORTRAIT", "CUBIC")] + boxes_of(104, 1)
+               FILM_LINE.format("1.9.7.101", "STANDARD\\1,1", "LANDSCAPE", "BILINEAR")] + boxes_of(102, 1) + \
+        [FILM_LINE.format("1.9.7.103", "STANDARD\\1,1", "PORTRAIT", "CUBIC")] + boxes_of(104, 1)
 
 
 def box_set():
@@ -96,7 +106,7 @@ def box_set():
     rows = [(0x20200010, "US", u16(1)), (0x20200110, "SQ", [bad])] + reverse
     c.ask(request, c.encode(rows), request.response(0x0121, film.boxes[3]))
     changes = {0: (4, "REVERSE", 1), 1: (2, "REVERSE", 3), 2: (1, "NORMAL", 0)}
-    film_line = FILM_LINE.format("1.9.7.101", "2,2", "PORTRAIT", "BILINEAR")
+    film_line = FILM_LINE.format("1.9.7.101", "STANDARD\\2,2", "PORTRAIT", "BILINEAR")
     return c, [NEXT.format(106, 5, 0), SESSION_LINE.format(*DEFAULTS), film_line] + boxes_of(102, 4, changes)
 
 
@@ -121,7 +131,7 @@ def deleted():
     c.create_film(1, 1, "2.25.1")
     c.delete_film(first)
     return c, [NEXT.format(104, 1, 0), SESSION_LINE.format(*DEFAULTS),
-               FILM_LINE.format("2.25.1", "1,1", "PORTRAIT", "BILINEAR")] + boxes_of(103, 1)
+               FILM_LINE.format("2.25.1", "STANDARD\\1,1", "PORTRAIT", "BILINEAR")] + boxes_of(103, 1)
 
 
 def started_again():
@@ -137,4 +147,4 @@ def started_again():
 
 STORED = [(f.__name__, f) for f in (
     session_defaults, session_all, session_set, session_set_keeps, session_set_in_part, film_columns_first,
-    film_set, box_set, queue_stays, deleted, started_again)]
+    films_uneven, film_set, box_set, queue_stays, deleted, started_again)]

@@ -5,7 +5,7 @@ ghost use mathlib.Core.Path.{_≡_};
 ghost use Rattle.rules.specs.Outcomes.{feeds};
 
 // The bytes of the records.
-const RECORDS: usize = 7072;
+const RECORDS: usize = 7080;
 
 pub fn feed(
     records: &mut [u8],

@@ -23,4 +23,4 @@ unknownResult message field = fails (unknownReply message field)
 
 -- the least lengths
 abbrev pub RoomFor : List ℕ → List ℕ → List ℕ → List ℕ → Type 0
-RoomFor records command dataSet report = (7072 ≤ length records) × (256 ≤ length command) × (8192 ≤ length dataSet) × (20 ≤ length report)
+RoomFor records command dataSet report = (7080 ≤ length records) × (256 ≤ length command) × (8192 ≤ length dataSet) × (20 ≤ length report)

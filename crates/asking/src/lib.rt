@@ -36,7 +36,7 @@ fn known(
 
 // Check 1: an unknown field fails.
 fn unknown(records: &mut [u8], command: &mut [u8], report: &mut [u8], message: u16, field: u16)
-    requires { ⌜ (7072 ≤ length (now records)) × (256 ≤ length (now command)) × (20 ≤ length (now report)) ⌝ }
+    requires { ⌜ (7080 ≤ length (now records)) × (256 ≤ length (now command)) × (20 ≤ length (now report)) ⌝ }
     ensures { λ _. ⌜ (now (records .exit) ≡ settledBy (unknownResult message field) (now (records .entry))) × (now (command .exit) ≡ laid (now (command .entry)) 0 (unknownReply message field .command)) × (now (report .exit) ≡ laid (now (report .entry)) 0 (reportBytes (unknownReply message field))) ⌝ }
 {
     feeding::respond_unknown(command, report, message, field);

@@ -174,24 +174,3 @@ laid-blank n x t h = ap (λ z. t ++ z) (drop-blank n (0 + length t) (n - length 
 
 pub label-laid : {u v t r : List ℕ} → v ≡ u → t ≡ trimmed v → length (trimmed u) ≤ 64 → r ≡ laid (replicate 64 0) 0 t → r ≡ filledTo 64 0 (trimmed v)
 label-laid {t = t} x y h z = z ∙ (laid-blank 64 0 t (fits-told x y h) ∙ ap (filledTo 64 0) y)
-
--- Lines filled one by one, the others blank.
-
-abbrev pub linesTo : ℕ → ℕ → ℕ → List ℕ
-linesTo n k i = replicate i k ++ replicate (n - i) 0
-
-more-left : (n i : ℕ) → i < n → n - i ≡ suc (n - (i + 1))
-more-left n i h = omega (arith, h)
-
-pub lines-turn : (n k i : ℕ) → i < n → set (linesTo n k i) i k ≡ linesTo n k (i + 1)
-lines-turn n k i h =
-    ap (λ m. set (replicate i k ++ replicate m 0) i k) (more-left n i h)
-    ∙ (set-at (replicate i k) 0 (replicate (n - (i + 1)) 0) k i (length-replicate i k)
-    ∙ (sym (append-snoc (replicate i k) k (replicate (n - (i + 1)) 0))
-    ∙ ap (λ z. z ++ replicate (n - (i + 1)) 0) (replicate-append-replicate i 1 k)))
-
-pub lines-done : (n k i lines : ℕ) → i ≡ lines → linesTo n k i ≡ filledTo n 0 (replicate lines k)
-lines-done n k i lines e = rw (e, length-replicate lines k)
-
-pub layout-told : (lines boxes : ℕ) {xs counts : List ℕ} → replicate lines boxes ≡ xs → counts ≡ filledTo 6 0 (replicate lines boxes) → record { lines = lines; counts = counts } ≡ layoutFrom xs
-layout-told lines boxes e h = rw (h, ← e, length-replicate lines boxes)

@@ -11,7 +11,7 @@ use standings::Attribute;
 ghost use mathlib.Core.Path.{_≡_};
 ghost use Prim.Native.Nat.{_≤_};
 ghost use lib.Dec.{eqb};
-ghost use lib.ListN.{length, replicate};
+ghost use lib.ListN.{length};
 ghost use Rattle.choice.specs.Pick.{both, not};
 ghost use Rattle.choice.specs.Rules.{firstBroken};
 ghost use Rattle.octets.specs.Octets.{same};
@@ -289,30 +289,11 @@ pub fn film_with(d: &[u8], explicit: bool, f: Film) -> Film
     }
 }
 
-// So many lines of so many boxes.
-fn lines_of(lines: u8, boxes: u8) -> [u8; 6]
-    requires { ⌜ lines ≤ 6 ⌝ }
-    ensures { λ r. ⌜ r ≡ filledTo 6 0 (replicate lines boxes) ⌝ }
-{
-    let n = lines as usize;
-    let mut counts = [0; 6];
-    let mut i = 0;
-    while i < n {
-        counts[i] = boxes;
-        i += 1;
-    }
-    counts
-}
-
 // The layout that Format gives.
 pub fn layout_in(d: &[u8], explicit: bool) -> Layout
     ensures { λ r. ⌜ r ≡ layoutIn (listingOf (now (d .entry)) explicit) ⌝ }
 {
-    let grid = values::counts_in(value_of(d, explicit, FORMAT));
-    Layout {
-        lines: grid.lines,
-        counts: lines_of(grid.lines, grid.boxes),
-    }
+    layouts::layout_in(value_of(d, explicit, FORMAT))
 }
 
 fn format_severity(d: &[u8], explicit: bool) -> u8
@@ -320,8 +301,8 @@ fn format_severity(d: &[u8], explicit: bool) -> u8
 {
     let at = look(d, explicit, FORMAT);
     let v = standings::value(d, at.value);
-    let grid = values::counts_in(v);
-    standings::severity(at.kind, texts::is_blank(v), grid.lines != 0)
+    let layout = layouts::layout_in(v);
+    standings::severity(at.kind, texts::is_blank(v), layout.lines != 0)
 }
 
 fn is_session_class(u: &[u8]) -> bool

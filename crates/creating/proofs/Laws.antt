@@ -23,7 +23,7 @@ use Rattle.rules.specs.declared.Core.{Core}
 use Rattle.rules.specs.declared.Request.{Request}
 use Rattle.rules.specs.Bounds.{mostFilms, noneLeft}
 use Rattle.rules.specs.Lists.{sum}
-use Rattle.rules.specs.Values.{blank, countsIn}
+use Rattle.rules.specs.Values.{blank, byColumns, countsIn}
 use Rattle.rules.specs.Records.{noName, madeName, sentName, uidOf, boxCount, filmsOf, shelved, isLive, withNumbers, withFilms, serialsUsed, boxUids}
 use Rattle.rules.specs.Commands.{size, bytesOf, uidAt}
 use Rattle.rules.specs.Attributes.{Listing, Standing, look, valueOf, attributeRules, sessionStandings, filmCreateStandings, filmWith, layoutFrom, layoutIn}
@@ -32,7 +32,7 @@ use Rattle.rules.specs.Checks.{Class, sessions, films, createRules, newSessionR
 use Rattle.rules.specs.Sound.{coreSound}
 use Rattle.promises.proofs.Facts.{core-facts, numbers-facts, shelf-facts, filmRoom, between-true}
 use Rattle.promises.proofs.Standings.{kept-fine, mandatory-fine}
-use Rattle.promises.proofs.Layouts.{Grid, counts-grid, layout-few}
+use Rattle.promises.proofs.Layouts.{Lines, counts-lines, sum-between, layout-few}
 use Rattle.promises.proofs.NewNames.{sendable, sent-short}
 use Rattle.verdicts.specs.declared.NewBoxes.{NewBoxes}
 use Rattle.verdicts.specs.declared.Verdict.{Verdict}
@@ -113,13 +113,10 @@ session-kept k sent l e =
 
 -- Films.
 
-sum-some : (more columns : ℕ) → 1 ≤ columns → 1 ≤ sum (replicate (suc more) columns)
-unfolding sum
-sum-some more columns h = omega arith
-
-grid-some : (counts : List ℕ) → Grid counts → 1 ≤ boxCount (layoutFrom counts)
+lines-some : (turned : Bool) (counts : List ℕ) → Lines counts → 1 ≤ boxCount (layoutFrom turned counts)
 unfolding boxCount
-grid-some counts g = rw (take-append-seam counts (replicate (6 - length counts) 0)) (subst (λ xs. 1 ≤ sum xs) (sym (g .lines)) (sum-some (g .more) (g .columns) (g .some)))
+lines-some turned counts g =
+    rw (take-append-seam counts (replicate (6 - length counts) 0)) (omega (arith, g .some, sum-between counts (g .each) .0))
 
 pub record FilmKept (k : Core) (sent : List ℕ) (l : Listing) : Type 0 where
   pub room : length (filmsOf (k .shelf)) ≡ 8 → ⊥
@@ -136,7 +133,7 @@ film-kept k sent l e =
     record {
       room = eqb-false (length (filmsOf (k .shelf))) 8 (h .1 .1 .1 .0);
       serials = ltb-false noneLeft (k .numbers .serial + filmSerials sent l) (h .1 .1 .1 .1 .0);
-      some = grid-some (countsIn v) (counts-grid v (eqb-false (length (countsIn v)) 0 a));
+      some = lines-some (byColumns v) (countsIn v) (counts-lines v (eqb-false (length (countsIn v)) 0 a));
     }
 
 -- as many films as the shelf counts

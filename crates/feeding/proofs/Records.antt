@@ -14,19 +14,19 @@ use Rattle.rules.specs.Layout.{serialFormat, pictureFormat, nameFormat, session
 use Rattle.promises.proofs.Packed.{core-laws}
 use Rattle.feeding.specs.Feeding.{inputWritten}
 
-core-size : coreFormat .size ≡ 6041
+core-size : coreFormat .size ≡ 6049
 unfolding serialFormat pictureFormat nameFormat sessionFormat boxFormat layoutFormat filmFormat shelfFormat entryFormat queueFormat numbersFormat openedFormat coreFormat
 core-size = refl
 
-module _ (b : List ℕ) (i : Input) (o : Bytes b) (h : 7072 ≤ length b) where
+module _ (b : List ℕ) (i : Input) (o : Bytes b) (h : 7080 ≤ length b) where
   core-stays : laid b 0 (coreFormat .bytes (coreFormat .read b 0)) ≡ b
   unfolding write
   core-stays = write-read core-laws b 0 o (omega (arith, core-size, h))
 
-  at-input : 0 + length (coreFormat .bytes (coreFormat .read b 0)) ≡ 6041
+  at-input : 0 + length (coreFormat .bytes (coreFormat .read b 0)) ≡ 6049
   at-input = omega (arith, core-laws .sized (coreFormat .read b 0), core-size)
 
-  pub input-alone : write inputFormat i b 6041 ≡ inputWritten i b
+  pub input-alone : write inputFormat i b 6049 ≡ inputWritten i b
   unfolding write inputWritten unpack pack stateFormat
   input-alone =
       ap (λ (n : ℕ). laid b n (inputFormat .bytes i)) (sym at-input)

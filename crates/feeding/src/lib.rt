@@ -205,10 +205,10 @@ pub fn respond_unknown(command: &mut [u8], report: &mut [u8], message: u16, fiel
 
 // The same core with another input: the core's bytes are what they were.
 pub fn put_input(records: &mut [u8], i: Input)
-    requires { ⌜ 7072 ≤ length (now records) ⌝ }
+    requires { ⌜ 7080 ≤ length (now records) ⌝ }
     ensures { λ _. ⌜ now (records .exit) ≡ inputWritten i (now (records .entry)) ⌝ }
 {
-    records::put_input(records, 6041, i);
+    records::put_input(records, 6049, i);
 }
 
 fn no_input() -> Input
@@ -224,7 +224,7 @@ fn no_input() -> Input
 
 // The same core with no message half collected.
 pub fn put_idle(records: &mut [u8])
-    requires { ⌜ 7072 ≤ length (now records) ⌝ }
+    requires { ⌜ 7080 ≤ length (now records) ⌝ }
     ensures { λ _. ⌜ now (records .exit) ≡ inputWritten (inputHeld idle) (now (records .entry)) ⌝ }
 {
     put_input(records, no_input());
@@ -232,7 +232,7 @@ pub fn put_idle(records: &mut [u8])
 
 // Another core with no message half collected.
 pub fn put_core(records: &mut [u8], core: Core)
-    requires { ⌜ 7072 ≤ length (now records) ⌝ }
+    requires { ⌜ 7080 ≤ length (now records) ⌝ }
     ensures { λ _. ⌜ now (records .exit) ≡ written (record { core = core; input = idle }) (now (records .entry)) ⌝ }
 {
     let input = no_input();
@@ -242,7 +242,7 @@ pub fn put_core(records: &mut [u8], core: Core)
 
 // The records after a verdict: what was done is kept, a failure leaves the core.
 pub fn put_settled(records: &mut [u8], v: Verdict)
-    requires { ⌜ 7072 ≤ length (now records) ⌝ }
+    requires { ⌜ 7080 ≤ length (now records) ⌝ }
     ensures { λ _. ⌜ now (records .exit) ≡ settled (v .done) (v .core) (now (records .entry)) ⌝ }
 {
     if v.done {

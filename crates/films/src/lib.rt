@@ -14,15 +14,24 @@ ghost use Rattle.choice.specs.Pick.{pick, not};
 ghost use Rattle.rules.specs.Bounds.{mostFilms};
 ghost use Rattle.rules.specs.Lists.{every};
 ghost use Rattle.rules.specs.Records.{boxCount, boxesOf};
-ghost use Rattle.rules.specs.Sound.{zeros, layoutSound, boxSound, boxBlank, filmBlank, filmSound, shelfSound};
+ghost use Rattle.rules.specs.Sound.{between, zeros, layoutSound, boxSound, boxBlank, filmBlank, filmSound, shelfSound};
 
-// Whether every byte is k.
-fn all_same(s: &[u8], k: u8) -> bool
-    ensures { λ r. ⌜ r ≡ every (eqb k) (now (s .entry)) ⌝ }
+// As many boxes as a line may have, and as many lines as a film.
+fn one_to_six(n: u8) -> bool
+    ensures { λ r. ⌜ r ≡ between 1 6 n ⌝ }
+{
+    if n < 1 {
+        return false;
+    }
+    n <= 6
+}
+
+fn counts_sound(s: &[u8]) -> bool
+    ensures { λ r. ⌜ r ≡ every (between 1 6) (now (s .entry)) ⌝ }
 {
     let mut i = 0;
     while i < s.len() {
-        if k != s[i] {
+        if !one_to_six(s[i]) {
             return false;
         }
         i += 1;
@@ -30,31 +39,24 @@ fn all_same(s: &[u8], k: u8) -> bool
     true
 }
 
-fn begins_same(s: &[u8], n: usize, k: u8) -> bool
-    ensures { λ r. ⌜ r ≡ every (eqb k) (take n (now (s .entry))) ⌝ }
+fn first_counts_sound(s: &[u8], n: usize) -> bool
+    ensures { λ r. ⌜ r ≡ every (between 1 6) (take n (now (s .entry))) ⌝ }
 {
     let m = distinct::within(s, n);
-    all_same(&s[0..m], k)
+    counts_sound(&s[0..m])
 }
 
 fn layout_sound(l: Layout) -> bool
     ensures { λ r. ⌜ r ≡ layoutSound l ⌝ }
 {
-    if l.lines < 1 {
+    if 1 < l.turned {
         return false;
     }
-    if 6 < l.lines {
+    if !one_to_six(l.lines) {
         return false;
     }
     let counts = l.counts;
-    let columns = counts[0];
-    if columns < 1 {
-        return false;
-    }
-    if 6 < columns {
-        return false;
-    }
-    if !begins_same(&counts, l.lines as usize, columns) {
+    if !first_counts_sound(&counts, l.lines as usize) {
         return false;
     }
     names::zeros_from(&counts, l.lines as usize)
@@ -131,9 +133,12 @@ fn boxes_sound(count: usize, n: Numbers, a: [ImageBox; 36]) -> bool
 }
 
 fn unmarked(f: Film) -> bool
-    ensures { λ r. ⌜ r ≡ zeros (f .layout .lines ∷ f .orientation ∷ f .magnification ∷ f .first .0 ∷ []) ⌝ }
+    ensures { λ r. ⌜ r ≡ zeros (f .layout .turned ∷ f .layout .lines ∷ f .orientation ∷ f .magnification ∷ f .first .0 ∷ []) ⌝ }
 {
     let layout = f.layout;
+    if layout.turned != 0 {
+        return false;
+    }
     if layout.lines != 0 {
         return false;
     }

@@ -13,7 +13,7 @@ ghost use Rattle.rules.specs.Outcomes.{starts, opens, closes};
 ghost use Rattle.runs.specs.Host.{startHanded, openHanded, nothingHanded};
 
 // The bytes of the records.
-const RECORDS: usize = 7072;
+const RECORDS: usize = 7080;
 
 // Start.
 

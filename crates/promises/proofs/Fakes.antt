@@ -29,7 +29,7 @@ use Rattle.rules.specs.Lists.{every, any, placeOf, apart, sum, from}
 use Rattle.rules.specs.Commands.{bytesOf, uidAt, groupZero, lengthTold, wellFormed, hasData, requestIn, understood}
 use Rattle.rules.specs.Records.{rootOf, uidOf, boxCount, boxesOf, filmsOf, shelved, entriesOf, queued, boxUids, named}
 use Rattle.rules.specs.Responses.{responseElements, responseTree, reply, boxItems, filmTree}
-use Rattle.rules.specs.Values.{withoutLeading, withoutTrailing, trimmed, blank, withoutPlus, decimalValue, countIn, codeIn, labelAllowed, standard, countsIn}
+use Rattle.rules.specs.Values.{withoutLeading, withoutTrailing, trimmed, blank, withoutPlus, decimalValue, countIn, codeIn, labelAllowed, standard, listed, numbersIn, uneven, countsIn}
 use Rattle.rules.specs.Attributes.{sessionStandings, sessionWith, optionalFilm, filmCreateStandings, filmSetStandings, filmWith, layoutIn, imageStandings, imageIn, boxStandings, boxWith}
 
 -- C-ECHO, number 7, in one fragment
@@ -111,7 +111,7 @@ kind (failedWith n) = 2
 
 pub replies-told-apart : (r : Reply) → (map kind (book (echo7 ∷ [])) ≡ 1 ∷ []) × (map kind (fails r (echo7 ∷ [])) ≡ 2 ∷ [])
     × (map kind (book (deletes ∷ [])) ≡ 2 ∷ []) × (map kind (fixed r (deletes ∷ [])) ≡ 1 ∷ [])
-unfolding numberAt bigNumberAt octets same digits component components isUid unpadded beginsWith lastDigits decimal made namedVr formOf implicitVr differs tagAt sizeAt vrAt lengthAt vrWrong lengthHead headAt itemHeadAt closeAt elementsFrom itemsOf findAt itemsAt walk trail listStep listFrom itemWith itemStep itemsFrom elementAt listAt itemAt dataSet padded tagOctets vrOctets headerSize plain header element written writtenItems sessionCreated newFilm filmCreated sessionSet filmSet boxSet sessionDeleted filmDeleted pictureOn entryOf entriesFor ticketAfter printed filledBoxes classOf generalRules createRules targetRules createPlan setPlan actionPlan deletePlan planOf decideRequest decide chars every any placeOf apart sum from bytesOf uidAt groupZero lengthTold wellFormed hasData requestIn understood rootOf uidOf boxCount boxesOf filmsOf shelved entriesOf queued boxUids named responseElements responseTree reply boxItems filmTree withoutLeading withoutTrailing trimmed blank withoutPlus decimalValue countIn codeIn labelAllowed standard countsIn sessionStandings sessionWith optionalFilm filmCreateStandings filmSetStandings filmWith layoutIn imageStandings imageIn boxStandings boxWith headerWrong fragmentIn skips reads gathers overflows stores collect laidBy answered carriedOut fed checked step laidIf messageAfter check started opened closed pictureBytes entryBytes taken reading answers
+unfolding numberAt bigNumberAt octets same digits component components isUid unpadded beginsWith lastDigits decimal made namedVr formOf implicitVr differs tagAt sizeAt vrAt lengthAt vrWrong lengthHead headAt itemHeadAt closeAt elementsFrom itemsOf findAt itemsAt walk trail listStep listFrom itemWith itemStep itemsFrom elementAt listAt itemAt dataSet padded tagOctets vrOctets headerSize plain header element written writtenItems sessionCreated newFilm filmCreated sessionSet filmSet boxSet sessionDeleted filmDeleted pictureOn entryOf entriesFor ticketAfter printed filledBoxes classOf generalRules createRules targetRules createPlan setPlan actionPlan deletePlan planOf decideRequest decide chars every any placeOf apart sum from bytesOf uidAt groupZero lengthTold wellFormed hasData requestIn understood rootOf uidOf boxCount boxesOf filmsOf shelved entriesOf queued boxUids named responseElements responseTree reply boxItems filmTree withoutLeading withoutTrailing trimmed blank withoutPlus decimalValue countIn codeIn labelAllowed standard listed numbersIn uneven countsIn sessionStandings sessionWith optionalFilm filmCreateStandings filmSetStandings filmWith layoutIn imageStandings imageIn boxStandings boxWith headerWrong fragmentIn skips reads gathers overflows stores collect laidBy answered carriedOut fed checked step laidIf messageAfter check started opened closed pictureBytes entryBytes taken reading answers
 replies-told-apart r = (refl, refl, refl, refl)
 
 -- one that drops everything, and one that responds rightly but stores nothing, at once or after the first message
@@ -119,5 +119,5 @@ pub told-apart : (book (echo7 ∷ []) ≡ succeededWith 0x0000 ∷ []) × (drops
     × (book (makes ∷ makes ∷ []) ≡ succeededWith 0x0000 ∷ failedWith 0x0111 ∷ []) × (none (makes ∷ makes ∷ []) ≡ succeededWith 0x0000 ∷ succeededWith 0x0000 ∷ [])
     × (book (makes ∷ deletes ∷ deletes ∷ []) ≡ succeededWith 0x0000 ∷ succeededWith 0x0000 ∷ failedWith 0x0112 ∷ [])
     × (first (makes ∷ deletes ∷ deletes ∷ []) ≡ succeededWith 0x0000 ∷ succeededWith 0x0000 ∷ succeededWith 0x0000 ∷ [])
-unfolding numberAt bigNumberAt octets same digits component components isUid unpadded beginsWith lastDigits decimal made namedVr formOf implicitVr differs tagAt sizeAt vrAt lengthAt vrWrong lengthHead headAt itemHeadAt closeAt elementsFrom itemsOf findAt itemsAt walk trail listStep listFrom itemWith itemStep itemsFrom elementAt listAt itemAt dataSet padded tagOctets vrOctets headerSize plain header element written writtenItems sessionCreated newFilm filmCreated sessionSet filmSet boxSet sessionDeleted filmDeleted pictureOn entryOf entriesFor ticketAfter printed filledBoxes classOf generalRules createRules targetRules createPlan setPlan actionPlan deletePlan planOf decideRequest decide chars every any placeOf apart sum from bytesOf uidAt groupZero lengthTold wellFormed hasData requestIn understood rootOf uidOf boxCount boxesOf filmsOf shelved entriesOf queued boxUids named responseElements responseTree reply boxItems filmTree withoutLeading withoutTrailing trimmed blank withoutPlus decimalValue countIn codeIn labelAllowed standard countsIn sessionStandings sessionWith optionalFilm filmCreateStandings filmSetStandings filmWith layoutIn imageStandings imageIn boxStandings boxWith headerWrong fragmentIn skips reads gathers overflows stores collect laidBy answered carriedOut fed checked step laidIf messageAfter check started opened closed pictureBytes entryBytes taken reading answers
+unfolding numberAt bigNumberAt octets same digits component components isUid unpadded beginsWith lastDigits decimal made namedVr formOf implicitVr differs tagAt sizeAt vrAt lengthAt vrWrong lengthHead headAt itemHeadAt closeAt elementsFrom itemsOf findAt itemsAt walk trail listStep listFrom itemWith itemStep itemsFrom elementAt listAt itemAt dataSet padded tagOctets vrOctets headerSize plain header element written writtenItems sessionCreated newFilm filmCreated sessionSet filmSet boxSet sessionDeleted filmDeleted pictureOn entryOf entriesFor ticketAfter printed filledBoxes classOf generalRules createRules targetRules createPlan setPlan actionPlan deletePlan planOf decideRequest decide chars every any placeOf apart sum from bytesOf uidAt groupZero lengthTold wellFormed hasData requestIn understood rootOf uidOf boxCount boxesOf filmsOf shelved entriesOf queued boxUids named responseElements responseTree reply boxItems filmTree withoutLeading withoutTrailing trimmed blank withoutPlus decimalValue countIn codeIn labelAllowed standard listed numbersIn uneven countsIn sessionStandings sessionWith optionalFilm filmCreateStandings filmSetStandings filmWith layoutIn imageStandings imageIn boxStandings boxWith headerWrong fragmentIn skips reads gathers overflows stores collect laidBy answered carriedOut fed checked step laidIf messageAfter check started opened closed pictureBytes entryBytes taken reading answers
 told-apart = (refl, refl, refl, refl, refl, refl)

@@ -6,7 +6,7 @@ use mathlib.Core.Bool.{Bool, true, false}
 use mathlib.Core.List.{List, [], _∷_, _++_, append-assoc}
 use native.Mathlib.Omega.{arith}
 use lib.Dec.{eqb, leb, ltb}
-use lib.ListN.{length, getD, take, drop}
+use lib.ListN.{length, length-take, getD, take, drop}
 use borrow.Author.Tests.{leb-true, ltb-true, eqb-true}
 use Rattle.choice.specs.Pick.{pick, both, either, not}
 use Rattle.choice.proofs.Picks.{both-true}
@@ -34,14 +34,14 @@ use Rattle.rules.specs.declared.Input.{Input}
 use Rattle.rules.specs.Lists.{every, sum, filledTo}
 use Rattle.rules.specs.Values.{trimmed, labelByte, labelAllowed}
 use Rattle.rules.specs.Records.{rootOf, boxCount, boxesOf, filmsOf, entriesOf, isLive}
-use Rattle.rules.specs.Sound.{zeros, flag, nameSound, sentSound, madeSound, nameBlank, numbersSound, sessionSound, sessionBlank, layoutSound, boxSound, boxBlank, filmSound, filmBlank, shelfSound, entrySound, entryBlank, queueSound, openSound, openedSound, coreSound}
+use Rattle.rules.specs.Sound.{between, zeros, flag, nameSound, sentSound, madeSound, nameBlank, numbersSound, sessionSound, sessionBlank, layoutSound, boxSound, boxBlank, filmSound, filmBlank, shelfSound, entrySound, entryBlank, queueSound, openSound, openedSound, coreSound}
 use Rattle.rules.specs.Layout.{serialFormat, pictureFormat, nameFormat, sessionFormat, boxFormat, layoutFormat, filmFormat, shelfFormat, entryFormat, queueFormat, numbersFormat, openedFormat, coreFormat, inputFormat, stateFormat, recordsSize, unpack, pack}
 use Rattle.rules.specs.Outcomes.{held, inputHeld, written}
 use Rattle.rules.proofs.Sizes.{records-size}
 use Rattle.promises.proofs.Packed.{state-laws, unpack-pack, core-unpacked}
 use Rattle.promises.proofs.ListLaws.{all-true, Each, each-at, each-append, each-take, each-drop, each-join, each-filled, each-told, each-so, filled-length}
 use Rattle.promises.proofs.Facts.{between-true, core-facts, numbers-facts, shelf-facts, queue-facts, LabelFacts, session-facts, box-facts, film-facts}
-use Rattle.promises.proofs.Layouts.{boxes-most}
+use Rattle.promises.proofs.Layouts.{boxes-most, sum-between}
 use Rattle.promises.proofs.Kept.{stateOf}
 use Rattle.promises.proofs.Sized.{NameSized, SessionSized, FilmSized, ShelfSized, EntrySized, QueueSized, NumbersSized, Sized}
 
@@ -187,51 +187,38 @@ good-session n s h live e z = session-cases n s (isLive s) h (leb-true (s .live)
 
 -- as many lines as there may be, and as many boxes in each
 pub record LayoutFacts (l : Layout) : Type 0 where
+  pub turned : l .turned ≤ 1
   pub lines : (1 ≤ l .lines) × (l .lines ≤ 6)
-  pub first : (1 ≤ getD (l .counts) 0 0) × (getD (l .counts) 0 0 ≤ 6)
-  pub counts : Each (λ (c : ℕ). c ≤ 6) (take (l .lines) (l .counts))
+  pub counts : every (between 1 6) (take (l .lines) (l .counts)) ≡ true
   pub behind : zeros (drop (l .lines) (l .counts)) ≡ true
 
 pub layout-facts : (l : Layout) → layoutSound l ≡ true → LayoutFacts l
 unfolding layoutSound
 layout-facts l e =
     let t = all-true _ e in
-    let c = getD (l .counts) 0 0 in
-    let first = between-true 1 6 c (t .1 .0) in
-    record {
-      lines = between-true 1 6 (l .lines) (t .0);
-      first = first;
-      counts = each-told (λ (x : ℕ). x ≤ 6) (eqb c) (λ x h. let z = eqb-true c x h in omega (arith, first .1)) (take (l .lines) (l .counts)) (t .1 .1 .0);
-      behind = t .1 .1 .1 .0;
-    }
-
-sum-first : (n : ℕ) (xs : List ℕ) → 1 ≤ n → getD xs 0 0 ≤ sum (take n xs)
-unfolding sum
-sum-first zero xs h = absurd (omega arith)
-sum-first (suc n) [] h = omega arith
-sum-first (suc n) (x ∷ xs) h = omega arith
+    record { turned = leb-true (l .turned) 1 (t .0); lines = between-true 1 6 (l .lines) (t .1 .0); counts = t .1 .1 .0; behind = t .1 .1 .1 .0 }
 
 -- a film has a box, and no more than there are places
-pub box-count : (l : Layout) → layoutSound l ≡ true → (1 ≤ boxCount l) × (boxCount l ≤ mostBoxes)
+pub box-count : (l : Layout) → layoutSound l ≡ true → length (l .counts) ≡ 6 → (1 ≤ boxCount l) × (boxCount l ≤ mostBoxes)
 unfolding boxCount
-box-count l e =
+box-count l e z =
     let t = layout-facts l e in
-    let low = sum-first (l .lines) (l .counts) (t .lines .0) in
-    (omega (arith, t .first .0), boxes-most l e)
-
-few-bytes : (xs : List ℕ) → Each (λ (c : ℕ). c ≤ 6) xs → Each Byte xs
-few-bytes [] h = tt
-few-bytes (x ∷ xs) h = let k = h .0 in (omega arith, few-bytes xs (h .1))
+    let n = length-take (l .lines) (l .counts) in
+    let low = sum-between (take (l .lines) (l .counts)) (t .counts) .0 in
+    (omega (arith, t .lines .0), boxes-most l e)
 
 pub good-layout : (l : Layout) → layoutSound l ≡ true → length (l .counts) ≡ 6 → layoutFormat .Good l
 unfolding layoutFormat
 good-layout l e z =
     let t = layout-facts l e in (
-      omega (arith, t .lines .1),
-      good-array byte 6 (l .counts) z
-          (each-join Byte (l .lines) (l .counts)
-          (few-bytes (take (l .lines) (l .counts)) (t .counts))
-          (zero-bytes (drop (l .lines) (l .counts)) (t .behind))),
+      omega (arith, t .turned),
+      (
+        omega (arith, t .lines .1),
+        good-array byte 6 (l .counts) z
+            (each-join Byte (l .lines) (l .counts)
+            (each-told Byte (between 1 6) (λ x h. let most = between-true 1 6 x h .1 in omega arith) (take (l .lines) (l .counts)) (t .counts))
+            (zero-bytes (drop (l .lines) (l .counts)) (t .behind))),
+      ),
     )
 
 -- Pictures and boxes.
@@ -266,7 +253,7 @@ unfolding filmFormat serialFormat boxesOf
 good-film n f h k e z =
     let t = film-facts n f e in
     let count = boxCount (f .layout) in
-    let some = box-count (f .layout) (t .layout) in
+    let some = box-count (f .layout) (t .layout) (z .counts) in
     let orientation = leb-true (f .orientation) 1 (t .orientation) in
     let magnification = leb-true (f .magnification) 3 (t .magnification) in
     let last = leb-true (f .first .0 + count) (n .serial) (t .last) in (
@@ -292,18 +279,18 @@ good-film n f h k e z =
 pub good-no-film : (f : Film) → filmBlank f ≡ true → FilmSized f → filmFormat .Good f
 unfolding filmFormat serialFormat layoutFormat
 good-no-film f e z =
-    let values : List ℕ = f .layout .lines ∷ f .orientation ∷ f .magnification ∷ f .first .0 ∷ [] in
+    let values : List ℕ = f .layout .turned ∷ f .layout .lines ∷ f .orientation ∷ f .magnification ∷ f .first .0 ∷ [] in
     let t = all-true _ e in
     let v = zero-bytes values (t .1 .0) in (
       good-no-name (f .name) (t .0) (z .name),
       (
-        (v .0, good-array byte 6 (f .layout .counts) (z .counts) (zero-bytes (f .layout .counts) (t .1 .1 .0))),
+        (v .0, (v .1 .0, good-array byte 6 (f .layout .counts) (z .counts) (zero-bytes (f .layout .counts) (t .1 .1 .0)))),
         (
-          v .1 .0,
+          v .1 .1 .0,
           (
-            v .1 .1 .0,
+            v .1 .1 .1 .0,
             (
-              omega (arith, v .1 .1 .1 .0),
+              omega (arith, v .1 .1 .1 .1 .0),
               good-array boxFormat mostBoxes (f .boxes) (z .boxes) (each-told (boxFormat .Good) boxBlank good-no-box (f .boxes) (t .1 .1 .1 .0)),
             ),
           ),

@@ -2,14 +2,14 @@
 -- Assumes nothing.
 use Prim.Native.Nat.{ℕ, zero, suc, _+_, _*_, _-_, _≤_}
 use mathlib.Core.Path.{_≡_, refl}
-use mathlib.Core.Bool.{Bool, true, false}
+use mathlib.Core.Bool.{Bool, true, false, false≢true}
 use mathlib.Core.List.{List, [], _∷_, map}
 use native.Mathlib.Omega.{arith}
 use lib.Dec.{eqb, leb}
-use lib.ListN.{length-take, length, getD, take, replicate, length-replicate}
+use lib.ListN.{length, getD, take, drop, replicate, length-take, length-drop, length-replicate}
 use lib.Seq.{take-append-seam, drop-append-seam}
-use borrow.Author.Tests.{eqb-true, eqb-false, leb-true, lt-ltb, eq-eqb}
-use Rattle.choice.specs.Pick.{pick}
+use borrow.Author.Tests.{eqb-true, eqb-false, leb-true, lt-ltb}
+use Rattle.choice.specs.Pick.{pick, either}
 use Rattle.choice.proofs.Picks.{both-true, both-holds}
 use Rattle.octets.specs.Octets.{same}
 use Rattle.rules.specs.declared.Layout.{Layout}
@@ -17,121 +17,139 @@ use Rattle.rules.specs.declared.Numbers.{Numbers}
 use Rattle.rules.specs.Bounds.{mostBoxes}
 use Rattle.rules.specs.Text.{chars}
 use Rattle.rules.specs.Lists.{every, from, sum}
-use Rattle.rules.specs.Values.{withoutTrailing, oneToSix, standard, countsIn}
+use Rattle.rules.specs.Values.{withoutTrailing, oneToSix, standard, listed, numbersIn, uneven, byColumns, countsIn}
 use Rattle.rules.specs.Records.{boxCount}
 use Rattle.rules.specs.Attributes.{Listing, valueOf, layoutFrom, layoutIn}
 use Rattle.rules.specs.Effects.{newBox}
-use Rattle.rules.specs.Sound.{layoutSound, boxSound}
+use Rattle.rules.specs.Sound.{between, flag, layoutSound, boxSound}
 use Rattle.promises.proofs.ListLaws.{all-true, all-holds, every-parts, every-replicate}
 use Rattle.promises.proofs.Facts.{between-true, between-holds, box-sound}
 
--- so many lines of so many boxes each
-pub record Grid (counts : List ℕ) : Type 0 where
-  pub more : ℕ
-  pub columns : ℕ
-  pub few : more ≤ 5
-  pub some : 1 ≤ columns
-  pub most : columns ≤ 6
-  pub lines : counts ≡ replicate (suc more) columns
+-- 1 to 6 lines of 1 to 6 boxes each
+pub record Lines (counts : List ℕ) : Type 0 where
+  pub some : 1 ≤ length counts
+  pub few : length counts ≤ 6
+  pub each : every (between 1 6) counts ≡ true
 
-digit-sound : (c : ℕ) → oneToSix c ≡ true → (1 ≤ c - 48) × (c - 48 ≤ 6)
+digit-sound : (c : ℕ) → oneToSix c ≡ true → between 1 6 (c - 48) ≡ true
 digit-sound c e =
     let b = both-true (leb 49 c) (leb c 54) e in
     let x = leb-true 49 c (b .0) in
     let y = leb-true c 54 (b .1) in
-    (omega arith, omega arith)
+    between-holds 1 6 (c - 48) (omega arith) (omega arith)
 
-grid-of : (r c : ℕ) → (1 ≤ r) × (r ≤ 6) → (1 ≤ c) × (c ≤ 6) → Grid (replicate r c)
-grid-of zero c h g = absurd (omega (arith, h .0))
-grid-of (suc r) c h g = record { more = r; columns = c; few = omega (arith, h .1); some = g .0; most = g .1; lines = refl }
-
-standard-grid : (t : List ℕ) → standard t ≡ true → Grid (replicate (getD t 11 0 - 48) (getD t 9 0 - 48))
+standard-lines : (t : List ℕ) → standard t ≡ true → Lines (replicate (getD t 11 0 - 48) (getD t 9 0 - 48))
 unfolding standard
-standard-grid t e =
+standard-lines t e =
     let a = both-true (same (take 9 t) (chars "STANDARD\\")) _ e in
     let b = both-true (eqb (length t) 12) _ (a .1) in
     let c = both-true (oneToSix (getD t 9 0)) _ (b .1) in
     let d = both-true (eqb (getD t 10 0) 0x2C) (oneToSix (getD t 11 0)) (c .1) in
-    grid-of (getD t 11 0 - 48) (getD t 9 0 - 48) (digit-sound (getD t 11 0) (d .1)) (digit-sound (getD t 9 0) (c .0))
+    let rows = between-true 1 6 (getD t 11 0 - 48) (digit-sound (getD t 11 0) (d .1)) in
+    let n = length-replicate (getD t 11 0 - 48) (getD t 9 0 - 48) in
+    record {
+      some = omega (arith, rows .0);
+      few = omega (arith, rows .1);
+      each = every-replicate (between 1 6) (getD t 11 0 - 48) (getD t 9 0 - 48) (digit-sound (getD t 9 0) (c .0));
+    }
 
-counts-picked : (b : Bool) (counts : List ℕ) → (b ≡ true → Grid counts) → (length (pick b counts []) ≡ 0 → ⊥) → Grid (pick b counts [])
-counts-picked true counts f h = f refl
-counts-picked false counts f h = absurd (h refl)
+-- numbers with a comma between two are one more than the commas, each of 1 to 6
+pub listed-numbers : (t : List ℕ) → listed t ≡ true → (suc (length t) ≡ 2 * length (numbersIn t)) × (every (between 1 6) (numbersIn t) ≡ true)
+unfolding listed numbersIn every
+listed-numbers [] e = absurd (false≢true e)
+listed-numbers (d ∷ []) e = (refl, both-holds (between 1 6 (d - 48)) true (digit-sound d e) refl)
+listed-numbers (d ∷ (c ∷ ds)) e =
+    let a = both-true (oneToSix d) _ e in
+    let b = both-true (eqb c 0x2C) (listed ds) (a .1) in
+    let more = listed-numbers ds (b .1) in
+    let n = more .0 in
+    (omega arith, both-holds (between 1 6 (d - 48)) (every (between 1 6) (numbersIn ds)) (digit-sound d (a .0)) (more .1))
 
--- a format that gives lines gives a grid
-pub counts-grid : (v : List ℕ) → (length (countsIn v) ≡ 0 → ⊥) → Grid (countsIn v)
+uneven-lines : (t : List ℕ) → uneven t ≡ true → Lines (numbersIn (drop 4 t))
+unfolding uneven
+uneven-lines t e =
+    let a = both-true (either (same (take 4 t) (chars "ROW\\")) (same (take 4 t) (chars "COL\\"))) _ e in
+    let b = both-true (leb (length t) 15) (listed (drop 4 t)) (a .1) in
+    let most = leb-true (length t) 15 (b .0) in
+    let numbers = listed-numbers (drop 4 t) (b .1) in
+    let n = numbers .0 in
+    let m = length-drop 4 t in
+    record { some = omega arith; few = omega arith; each = numbers .1 }
+
+lines-picked : (b c : Bool) (xs ys : List ℕ) → (b ≡ true → Lines xs) → (c ≡ true → Lines ys) → (length (pick b xs (pick c ys [])) ≡ 0 → ⊥) → Lines (pick b xs (pick c ys []))
+lines-picked true c xs ys f g h = f refl
+lines-picked false true xs ys f g h = g refl
+lines-picked false false xs ys f g h = absurd (h refl)
+
+-- a format that gives lines gives as many as may be, of as many boxes
+pub counts-lines : (v : List ℕ) → (length (countsIn v) ≡ 0 → ⊥) → Lines (countsIn v)
 unfolding countsIn
-counts-grid v h = counts-picked (standard (withoutTrailing v)) _ (standard-grid (withoutTrailing v)) h
+counts-lines v h =
+    let t = withoutTrailing v in
+    lines-picked (standard t) (uneven t) _ _ (standard-lines t) (uneven-lines t) h
 
-lines-sound : (r c : ℕ) → r ≤ 5 → 1 ≤ c → c ≤ 6 → layoutSound (layoutFrom (replicate (suc r) c)) ≡ true
+flag-of : (b : Bool) → flag (pick b 1 0) ≡ true
+flag-of true = refl
+flag-of false = refl
+
+pub layout-sound : (turned : Bool) (counts : List ℕ) → Lines counts → layoutSound (layoutFrom turned counts) ≡ true
 unfolding layoutSound
-lines-sound r c h g m =
-    let xs = replicate (suc r) c in
-    let z : List ℕ = replicate (6 - length xs) 0 in
-    let n : length xs ≡ suc r = length-replicate (suc r) c in
+layout-sound turned counts g =
+    let z : List ℕ = replicate (6 - length counts) 0 in
     all-holds _ (
-      between-holds 1 6 (length xs) (omega arith) (omega arith),
+      flag-of turned,
       (
-        between-holds 1 6 c g m,
+        between-holds 1 6 (length counts) (g .some) (g .few),
         (
-          rw (take-append-seam xs z) (every-replicate (eqb c) (suc r) c (eq-eqb c c refl)),
-          (
-            rw (drop-append-seam xs z) (every-replicate (λ (b : ℕ). eqb b 0) (6 - length xs) 0 refl),
-            tt,
-          ),
+          rw (take-append-seam counts z) (g .each),
+          (rw (drop-append-seam counts z) (every-replicate (λ (b : ℕ). eqb b 0) (6 - length counts) 0 refl), tt),
         ),
       ),
     )
 
-pub layout-sound : (counts : List ℕ) → Grid counts → layoutSound (layoutFrom counts) ≡ true
-layout-sound counts g = rw (g .lines) (lines-sound (g .more) (g .columns) (g .few) (g .some) (g .most))
-
 -- How many lines, and how many boxes.
 
-few-lines : (counts : List ℕ) (none : Bool) → eqb (length counts) 0 ≡ none → ((length counts ≡ 0 → ⊥) → Grid counts) → length counts ≤ 6
+few-lines : (counts : List ℕ) (none : Bool) → eqb (length counts) 0 ≡ none → ((length counts ≡ 0 → ⊥) → Lines counts) → length counts ≤ 6
 few-lines counts true e g = let z = eqb-true (length counts) 0 e in omega arith
-few-lines counts false e g =
-    let t = g (eqb-false (length counts) 0 e) in
-    let few = t .few in
-    rw (t .lines) (rw (length-replicate (suc (t .more)) (t .columns)) (omega arith))
+few-lines counts false e g = g (eqb-false (length counts) 0 e) .few
 
 -- whatever a text says, it gives no more than six lines
 pub lines-few : (v : List ℕ) → length (countsIn v) ≤ 6
-lines-few v = few-lines (countsIn v) (eqb (length (countsIn v)) 0) refl (counts-grid v)
+lines-few v = few-lines (countsIn v) (eqb (length (countsIn v)) 0) refl (counts-lines v)
 
-sum-most : (c : ℕ) (xs : List ℕ) → c ≤ 6 → every (eqb c) xs ≡ true → sum xs ≤ 6 * length xs
+-- each line has a box, and at most six
+pub sum-between : (xs : List ℕ) → every (between 1 6) xs ≡ true → (length xs ≤ sum xs) × (sum xs ≤ 6 * length xs)
 unfolding sum
-sum-most c [] h e = omega arith
-sum-most c (x ∷ xs) h e =
-    let b = every-parts (eqb c) x xs e in
-    let q = eqb-true c x (b .0) in
-    let r = sum-most c xs h (b .1) in
-    omega arith
+sum-between [] e = (omega arith, omega arith)
+sum-between (x ∷ xs) e =
+    let b = every-parts (between 1 6) x xs e in
+    let q = between-true 1 6 x (b .0) in
+    let r = sum-between xs (b .1) in
+    (omega (arith, q .0, r .0), omega (arith, q .1, r .1))
 
 -- "36 boxes a film"
 pub boxes-most : (l : Layout) → layoutSound l ≡ true → boxCount l ≤ 36
 unfolding layoutSound boxCount
 boxes-most l e =
     let h = all-true _ e in
-    let lines = between-true 1 6 (l .lines) (h .0) .1 in
-    let columns = between-true 1 6 (getD (l .counts) 0 0) (h .1 .0) .1 in
-    let s = sum-most (getD (l .counts) 0 0) (take (l .lines) (l .counts)) columns (h .1 .1 .0) in
+    let lines = between-true 1 6 (l .lines) (h .1 .0) .1 in
+    let s = sum-between (take (l .lines) (l .counts)) (h .1 .1 .0) .1 in
     let n = length-take (l .lines) (l .counts) in
     omega arith
 
-no-boxes : (counts : List ℕ) → length counts ≡ 0 → boxCount (layoutFrom counts) ≡ 0
+no-boxes : (turned : Bool) (counts : List ℕ) → length counts ≡ 0 → boxCount (layoutFrom turned counts) ≡ 0
 unfolding boxCount sum
-no-boxes [] e = refl
-no-boxes (c ∷ counts) e = absurd (omega arith)
+no-boxes turned [] e = refl
+no-boxes turned (c ∷ counts) e = absurd (omega arith)
 
-few-boxes : (counts : List ℕ) (none : Bool) → eqb (length counts) 0 ≡ none → ((length counts ≡ 0 → ⊥) → Grid counts) → boxCount (layoutFrom counts) ≤ mostBoxes
-few-boxes counts true e g = let z = no-boxes counts (eqb-true (length counts) 0 e) in omega arith
-few-boxes counts false e g = boxes-most (layoutFrom counts) (layout-sound counts (g (eqb-false (length counts) 0 e)))
+few-boxes : (turned : Bool) (counts : List ℕ) (none : Bool) → eqb (length counts) 0 ≡ none → ((length counts ≡ 0 → ⊥) → Lines counts) → boxCount (layoutFrom turned counts) ≤ mostBoxes
+few-boxes turned counts true e g = let z = no-boxes turned counts (eqb-true (length counts) 0 e) in omega arith
+few-boxes turned counts false e g = boxes-most (layoutFrom turned counts) (layout-sound turned counts (g (eqb-false (length counts) 0 e)))
 
 -- so of the layout in a data set, also where it is not allowed
 pub layout-few : (l : Listing) → boxCount (layoutIn l) ≤ mostBoxes
 unfolding layoutIn
-layout-few l = let v = valueOf l 0x2010_0010 in few-boxes (countsIn v) (eqb (length (countsIn v)) 0) refl (counts-grid v)
+layout-few l = let v = valueOf l 0x2010_0010 in few-boxes (byColumns v) (countsIn v) (eqb (length (countsIn v)) 0) refl (counts-lines v)
 
 -- The boxes.
 

@@ -38,7 +38,7 @@ box-laws = via-laws _ _ (λ b. refl) (λ a. refl) (byte-laws then-laws byte-laws
 
 layout-laws : Laws layoutFormat
 unfolding layoutFormat
-layout-laws = via-laws _ _ (λ b. refl) (λ a. refl) (byte-laws then-laws array-laws 6 byte-laws)
+layout-laws = via-laws _ _ (λ b. refl) (λ a. refl) (byte-laws then-laws byte-laws then-laws array-laws 6 byte-laws)
 
 film-laws : Laws filmFormat
 unfolding filmFormat

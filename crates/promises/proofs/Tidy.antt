@@ -73,20 +73,21 @@ blank-box b e =
     let t = each-zero (b .position ∷ b .polarity ∷ b .picture .0 ∷ []) e in
     box-of (b .position) (b .polarity) (b .picture .0) (t .0) (t .1 .0) (t .1 .1 .0)
 
-film-of : (name : Name) (lines : ℕ) (counts : List ℕ) (orientation magnification first : ℕ) (boxes : List ImageBox) → name ≡ noName → lines ≡ 0 → counts ≡ replicate 6 0 → orientation ≡ 0 → magnification ≡ 0 → first ≡ 0 → boxes ≡ replicate mostBoxes noBox → _≡_ {A = Film} (record { name = name; layout = record { lines = lines; counts = counts }; orientation = orientation; magnification = magnification; first = serial first; boxes = boxes }) noFilm
-film-of name lines counts orientation magnification first boxes e f g h i j k = rw (e, f, g, h, i, j, k)
+film-of : (name : Name) (turned lines : ℕ) (counts : List ℕ) (orientation magnification first : ℕ) (boxes : List ImageBox) → name ≡ noName → turned ≡ 0 → lines ≡ 0 → counts ≡ replicate 6 0 → orientation ≡ 0 → magnification ≡ 0 → first ≡ 0 → boxes ≡ replicate mostBoxes noBox → _≡_ {A = Film} (record { name = name; layout = record { turned = turned; lines = lines; counts = counts }; orientation = orientation; magnification = magnification; first = serial first; boxes = boxes }) noFilm
+film-of name turned lines counts orientation magnification first boxes d e f g h i j k = rw (d, e, f, g, h, i, j, k)
 
 blank-film : (f : Film) → filmBlank f ≡ true → FilmSized f → f ≡ noFilm
 blank-film f e s =
     let t = all-true _ e in
-    let z = each-zero (f .layout .lines ∷ f .orientation ∷ f .magnification ∷ f .first .0 ∷ []) (t .1 .0) in
-    film-of (f .name) (f .layout .lines) (f .layout .counts) (f .orientation) (f .magnification) (f .first .0) (f .boxes)
+    let z = each-zero (f .layout .turned ∷ f .layout .lines ∷ f .orientation ∷ f .magnification ∷ f .first .0 ∷ []) (t .1 .0) in
+    film-of (f .name) (f .layout .turned) (f .layout .lines) (f .layout .counts) (f .orientation) (f .magnification) (f .first .0) (f .boxes)
     (blank-name (f .name) (t .0) (s .name))
     (z .0)
-    (all-zero 6 (f .layout .counts) (s .counts) (t .1 .1 .0))
     (z .1 .0)
+    (all-zero 6 (f .layout .counts) (s .counts) (t .1 .1 .0))
     (z .1 .1 .0)
     (z .1 .1 .1 .0)
+    (z .1 .1 .1 .1 .0)
     (all-alike noBox mostBoxes (f .boxes) (s .boxes) (each-told (λ (b : ImageBox). b ≡ noBox) boxBlank blank-box (f .boxes) (t .1 .1 .1 .0)))
 
 no-picture : (p : Picture) → eqb (p .0) 0 ≡ true → p ≡ picture 0

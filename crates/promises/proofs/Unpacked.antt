@@ -48,7 +48,7 @@ session-long s g = record { name = name-long (s .name) (g .1 .0); label = g .1 .
 
 film-long : (f : Film) → filmFormat .Good f → FilmSized f
 unfolding filmFormat layoutFormat
-film-long f g = record { name = name-long (f .name) (g .0); counts = g .1 .0 .1 .0; boxes = g .1 .1 .1 .1 .1 .0 }
+film-long f g = record { name = name-long (f .name) (g .0); counts = g .1 .0 .1 .1 .0; boxes = g .1 .1 .1 .1 .1 .0 }
 
 entry-long : (x : Entry) → entryFormat .Good x → EntrySized x
 unfolding entryFormat

@@ -23,7 +23,7 @@ box-steps = via-steps _ _ (λ b. refl) (λ a. refl) (byte-laws then-steps byte-l
 
 unfoldable pub layout-steps : Steps layoutFormat
 unfolding layoutFormat
-layout-steps = via-steps _ _ (λ b. refl) (λ a. refl) (byte-laws then-steps last (array-laws 6 byte-laws))
+layout-steps = via-steps _ _ (λ b. refl) (λ a. refl) (byte-laws then-steps byte-laws then-steps last (array-laws 6 byte-laws))
 
 unfoldable pub session-steps : Steps sessionFormat
 unfolding sessionFormat

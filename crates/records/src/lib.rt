@@ -102,23 +102,31 @@ pub fn put_image_box(s: &mut [u8], p: usize, x: ImageBox)
 }
 
 pub fn layout_at(s: &[u8], p: usize) -> Layout
-    requires { ⌜ p + 7 ≤ length (now s) ⌝ }
+    requires { ⌜ p + 8 ≤ length (now s) ⌝ }
     ensures { λ r. ⌜ r ≡ layoutFormat .read (now (s .entry)) p ⌝ }
 {
-    let lines = s[p];
+    let turned = s[p];
     let p1 = p + 1;
-    let counts = fields::bytes6_at(s, p1);
-    Layout { lines, counts }
+    let lines = s[p1];
+    let p2 = p1 + 1;
+    let counts = fields::bytes6_at(s, p2);
+    Layout {
+        turned,
+        lines,
+        counts,
+    }
 }
 
 pub fn put_layout(s: &mut [u8], p: usize, x: Layout)
-    requires { ⌜ p + 7 ≤ length (now s) ⌝ }
+    requires { ⌜ p + 8 ≤ length (now s) ⌝ }
     ensures { λ _. ⌜ now (s .exit) ≡ write layoutFormat x (now (s .entry)) p ⌝ }
 {
-    fields::put_byte(s, p, x.lines);
+    fields::put_byte(s, p, x.turned);
     let p1 = p + 1;
+    fields::put_byte(s, p1, x.lines);
+    let p2 = p1 + 1;
     let counts = x.counts;
-    fields::put_bytes6(s, p1, counts);
+    fields::put_bytes6(s, p2, counts);
 }
 
 pub fn session_at(s: &[u8], p: usize) -> Session
@@ -306,13 +314,13 @@ fn put_boxes(s: &mut [u8], p: usize, a: [ImageBox; 36])
 }
 
 pub fn film_at(s: &[u8], p: usize) -> Film
-    requires { ⌜ p + 298 ≤ length (now s) ⌝ }
+    requires { ⌜ p + 299 ≤ length (now s) ⌝ }
     ensures { λ r. ⌜ r ≡ filmFormat .read (now (s .entry)) p ⌝ }
 {
     let name = name_at(s, p);
     let p1 = p + 69;
     let layout = layout_at(s, p1);
-    let p2 = p1 + 7;
+    let p2 = p1 + 8;
     let orientation = s[p2];
     let p3 = p2 + 1;
     let magnification = s[p3];
@@ -331,7 +339,7 @@ pub fn film_at(s: &[u8], p: usize) -> Film
 }
 
 pub fn put_film(s: &mut [u8], p: usize, x: Film)
-    requires { ⌜ p + 298 ≤ length (now s) ⌝ }
+    requires { ⌜ p + 299 ≤ length (now s) ⌝ }
     ensures { λ _. ⌜ now (s .exit) ≡ write filmFormat x (now (s .entry)) p ⌝ }
 {
     let name = x.name;
@@ -339,7 +347,7 @@ pub fn put_film(s: &mut [u8], p: usize, x: Film)
     let p1 = p + 69;
     let layout = x.layout;
     put_layout(s, p1, layout);
-    let p2 = p1 + 7;
+    let p2 = p1 + 8;
     fields::put_byte(s, p2, x.orientation);
     let p3 = p2 + 1;
     fields::put_byte(s, p3, x.magnification);
@@ -352,13 +360,13 @@ pub fn put_film(s: &mut [u8], p: usize, x: Film)
 }
 
 fn films_at(s: &[u8], p: usize) -> [Film; 8]
-    requires { ⌜ p + 2384 ≤ length (now s) ⌝ }
+    requires { ⌜ p + 2392 ≤ length (now s) ⌝ }
     ensures { λ r. ⌜ r ≡ array 8 filmFormat .read (now (s .entry)) p ⌝ }
 {
     let mut xs = [film_at(s, p); 8];
     let mut i = 0;
     while i < 8 {
-        let x = film_at(s, p + i * 298);
+        let x = film_at(s, p + i * 299);
         xs[i] = x;
         i += 1;
     }
@@ -366,20 +374,20 @@ fn films_at(s: &[u8], p: usize) -> [Film; 8]
 }
 
 fn put_films(s: &mut [u8], p: usize, a: [Film; 8])
-    requires { ⌜ p + 2384 ≤ length (now s) ⌝ }
+    requires { ⌜ p + 2392 ≤ length (now s) ⌝ }
     ensures { λ _. ⌜ now (s .exit) ≡ write (array 8 filmFormat) a (now (s .entry)) p ⌝ }
 {
     let xs = a;
     let mut i = 0;
     while i < 8 {
         let x = xs[i];
-        put_film(s, p + i * 298, x);
+        put_film(s, p + i * 299, x);
         i += 1;
     }
 }
 
 pub fn shelf_at(s: &[u8], p: usize) -> Shelf
-    requires { ⌜ p + 2385 ≤ length (now s) ⌝ }
+    requires { ⌜ p + 2393 ≤ length (now s) ⌝ }
     ensures { λ r. ⌜ r ≡ shelfFormat .read (now (s .entry)) p ⌝ }
 {
     let count = s[p];
@@ -389,7 +397,7 @@ pub fn shelf_at(s: &[u8], p: usize) -> Shelf
 }
 
 pub fn put_shelf(s: &mut [u8], p: usize, x: Shelf)
-    requires { ⌜ p + 2385 ≤ length (now s) ⌝ }
+    requires { ⌜ p + 2393 ≤ length (now s) ⌝ }
     ensures { λ _. ⌜ now (s .exit) ≡ write shelfFormat x (now (s .entry)) p ⌝ }
 {
     fields::put_byte(s, p, x.count);
@@ -507,7 +515,7 @@ pub fn put_queue(s: &mut [u8], p: usize, x: Queue)
 }
 
 pub fn core_at(s: &[u8], p: usize) -> Core
-    requires { ⌜ p + 6041 ≤ length (now s) ⌝ }
+    requires { ⌜ p + 6049 ≤ length (now s) ⌝ }
     ensures { λ r. ⌜ r ≡ coreFormat .read (now (s .entry)) p ⌝ }
 {
     let numbers = numbers_at(s, p);
@@ -515,7 +523,7 @@ pub fn core_at(s: &[u8], p: usize) -> Core
     let session = session_at(s, p1);
     let p2 = p1 + 139;
     let shelf = shelf_at(s, p2);
-    let p3 = p2 + 2385;
+    let p3 = p2 + 2393;
     let queue = queue_at(s, p3);
     let p4 = p3 + 3457;
     let opened = opened_at(s, p4);
@@ -529,7 +537,7 @@ pub fn core_at(s: &[u8], p: usize) -> Core
 }
 
 pub fn put_core(s: &mut [u8], p: usize, x: Core)
-    requires { ⌜ p + 6041 ≤ length (now s) ⌝ }
+    requires { ⌜ p + 6049 ≤ length (now s) ⌝ }
     ensures { λ _. ⌜ now (s .exit) ≡ write coreFormat x (now (s .entry)) p ⌝ }
 {
     let numbers = x.numbers;
@@ -540,7 +548,7 @@ pub fn put_core(s: &mut [u8], p: usize, x: Core)
     let p2 = p1 + 139;
     let shelf = x.shelf;
     put_shelf(s, p2, shelf);
-    let p3 = p2 + 2385;
+    let p3 = p2 + 2393;
     let queue = x.queue;
     put_queue(s, p3, queue);
     let p4 = p3 + 3457;
@@ -549,22 +557,22 @@ pub fn put_core(s: &mut [u8], p: usize, x: Core)
 }
 
 pub fn state_at(s: &[u8], p: usize) -> State
-    requires { ⌜ p + 7072 ≤ length (now s) ⌝ }
+    requires { ⌜ p + 7080 ≤ length (now s) ⌝ }
     ensures { λ r. ⌜ r ≡ stateFormat .read (now (s .entry)) p ⌝ }
 {
     let core = core_at(s, p);
-    let p1 = p + 6041;
+    let p1 = p + 6049;
     let input = input_at(s, p1);
     State { core, input }
 }
 
 pub fn put_state(s: &mut [u8], p: usize, x: State)
-    requires { ⌜ p + 7072 ≤ length (now s) ⌝ }
+    requires { ⌜ p + 7080 ≤ length (now s) ⌝ }
     ensures { λ _. ⌜ now (s .exit) ≡ write stateFormat x (now (s .entry)) p ⌝ }
 {
     let core = x.core;
     put_core(s, p, core);
-    let p1 = p + 6041;
+    let p1 = p + 6049;
     let input = x.input;
     put_input(s, p1, input);
 }

@@ -25,7 +25,7 @@ use Rattle.rules.specs.Lists.{every, any, placeOf, apart, sum, from}
 use Rattle.rules.specs.Commands.{bytesOf, uidAt, groupZero, lengthTold, wellFormed, hasData, requestIn, understood}
 use Rattle.rules.specs.Records.{rootOf, uidOf, boxCount, boxesOf, filmsOf, shelved, entriesOf, queued, boxUids, named}
 use Rattle.rules.specs.Responses.{responseElements, responseTree, reply, boxItems, filmTree}
-use Rattle.rules.specs.Values.{withoutLeading, withoutTrailing, trimmed, blank, withoutPlus, decimalValue, countIn, codeIn, labelAllowed, standard, countsIn}
+use Rattle.rules.specs.Values.{withoutLeading, withoutTrailing, trimmed, blank, withoutPlus, decimalValue, countIn, codeIn, labelAllowed, standard, listed, numbersIn, uneven, countsIn}
 use Rattle.rules.specs.Attributes.{sessionStandings, sessionWith, optionalFilm, filmCreateStandings, filmSetStandings, filmWith, layoutIn, imageStandings, imageIn, boxStandings, boxWith}
 
 abbrev P5 : Result Core Reply
@@ -51,5 +51,5 @@ examples =
     ∷ []
 
 pub all-hold : AllHold examples
-unfolding numberAt bigNumberAt octets same digits component components isUid unpadded beginsWith lastDigits decimal made namedVr formOf implicitVr differs tagAt sizeAt vrAt lengthAt vrWrong lengthHead headAt itemHeadAt closeAt elementsFrom itemsOf findAt itemsAt walk trail listStep listFrom itemWith itemStep itemsFrom elementAt listAt itemAt dataSet padded tagOctets vrOctets headerSize plain header element written writtenItems sessionCreated newFilm filmCreated sessionSet filmSet boxSet sessionDeleted filmDeleted pictureOn entryOf entriesFor ticketAfter printed filledBoxes classOf generalRules createRules targetRules createPlan setPlan actionPlan deletePlan planOf decideRequest decide chars every any placeOf apart sum from bytesOf uidAt groupZero lengthTold wellFormed hasData requestIn understood rootOf uidOf boxCount boxesOf filmsOf shelved entriesOf queued boxUids named responseElements responseTree reply boxItems filmTree withoutLeading withoutTrailing trimmed blank withoutPlus decimalValue countIn codeIn labelAllowed standard countsIn sessionStandings sessionWith optionalFilm filmCreateStandings filmSetStandings filmWith layoutIn imageStandings imageIn boxStandings boxWith
+unfolding numberAt bigNumberAt octets same digits component components isUid unpadded beginsWith lastDigits decimal made namedVr formOf implicitVr differs tagAt sizeAt vrAt lengthAt vrWrong lengthHead headAt itemHeadAt closeAt elementsFrom itemsOf findAt itemsAt walk trail listStep listFrom itemWith itemStep itemsFrom elementAt listAt itemAt dataSet padded tagOctets vrOctets headerSize plain header element written writtenItems sessionCreated newFilm filmCreated sessionSet filmSet boxSet sessionDeleted filmDeleted pictureOn entryOf entriesFor ticketAfter printed filledBoxes classOf generalRules createRules targetRules createPlan setPlan actionPlan deletePlan planOf decideRequest decide chars every any placeOf apart sum from bytesOf uidAt groupZero lengthTold wellFormed hasData requestIn understood rootOf uidOf boxCount boxesOf filmsOf shelved entriesOf queued boxUids named responseElements responseTree reply boxItems filmTree withoutLeading withoutTrailing trimmed blank withoutPlus decimalValue countIn codeIn labelAllowed standard listed numbersIn uneven countsIn sessionStandings sessionWith optionalFilm filmCreateStandings filmSetStandings filmWith layoutIn imageStandings imageIn boxStandings boxWith
 all-hold = (refl, (refl, (refl, (refl, (refl, (refl, (refl, (refl, (refl, (refl, (refl, (refl, (refl, (refl, tt))))))))))))))

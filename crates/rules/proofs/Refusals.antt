@@ -74,7 +74,7 @@ taking k n = numberOf (stepOf k (aside (entryOfSize n)) .answer)
 abbrev refusals : List Example
 refusals =
     -- records: zeros, which break a rule; a byte short
-    gives (closes (replicate 7072 0) answers .number ∷ closes (replicate 7071 0) answers .number ∷ []) (1 ∷ 2 ∷ [])
+    gives (closes (replicate 7080 0) answers .number ∷ closes (replicate 7071 0) answers .number ∷ []) (1 ∷ 2 ∷ [])
     -- start: a bad root, a root of 41 characters, numbers 0; done
     ∷ gives (starting (chars "1.02") ∷ starting long ∷ startingAt 0 1 ∷ startingAt 1 0 ∷ startingAt 1 1 ∷ []) (3 ∷ 3 ∷ 3 ∷ 3 ∷ 0 ∷ [])
     -- open: message buffers out of limits; a bad context, a bad syntax; done

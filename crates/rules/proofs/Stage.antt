@@ -1,6 +1,7 @@
 -- What the worked examples are built of: records as they stand, and what a request gives.
 -- Assumes nothing.
 use mathlib.Core.Path.{_≡_}
+use mathlib.Core.Bool.{false}
 use mathlib.Core.List.{List, [], _∷_, map}
 use Prim.Native.Nat.{ℕ}
 use Rattle.strike.specs.Service.{Result, fails, does}
@@ -37,7 +38,7 @@ sessionLive = record {
 abbrev pub theFilm : Film
 theFilm = record {
   name = madeName 100;
-  layout = layoutFrom (2 ∷ 2 ∷ 2 ∷ []);
+  layout = layoutFrom false (2 ∷ 2 ∷ 2 ∷ []);
   orientation = 0;
   magnification = 2;
   first = serial 101;

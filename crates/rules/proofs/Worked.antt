@@ -1,7 +1,7 @@
 -- Worked requests: every check from 1 to 11, and the effects, computed. They catch the must-fail edits of the definitions.
 -- Assumes nothing.
 use mathlib.Core.Path.{refl}
-use mathlib.Core.Bool.{false}
+use mathlib.Core.Bool.{true, false}
 use mathlib.Core.List.{List, [], _∷_, _++_}
 use Prim.Native.Nat.{ℕ}
 use lib.ListN.{getD, replicate}
@@ -32,8 +32,9 @@ use Rattle.rules.specs.Lists.{every, any, placeOf, apart, sum, from}
 use Rattle.rules.specs.Commands.{bytesOf, uidAt, groupZero, lengthTold, wellFormed, hasData, requestIn, understood}
 use Rattle.rules.specs.Records.{rootOf, uidOf, boxCount, boxesOf, filmsOf, shelved, entriesOf, queued, boxUids, named}
 use Rattle.rules.specs.Responses.{responseElements, responseTree, reply, boxItems, filmTree}
-use Rattle.rules.specs.Values.{withoutLeading, withoutTrailing, trimmed, blank, withoutPlus, decimalValue, countIn, codeIn, labelAllowed, standard, countsIn}
-use Rattle.rules.specs.Attributes.{sessionStandings, sessionWith, optionalFilm, filmCreateStandings, filmSetStandings, filmWith, layoutIn, imageStandings, imageIn, boxStandings, boxWith}
+use Rattle.rules.specs.Positions.{spotOf, rowOf, columnOf}
+use Rattle.rules.specs.Values.{withoutLeading, withoutTrailing, trimmed, blank, withoutPlus, decimalValue, countIn, codeIn, labelAllowed, standard, listed, numbersIn, uneven, byColumns, countsIn}
+use Rattle.rules.specs.Attributes.{sessionStandings, sessionWith, optionalFilm, filmCreateStandings, filmSetStandings, filmWith, layoutFrom, layoutIn, imageStandings, imageIn, boxStandings, boxWith}
 
 -- more records: eight films; serials and pictures that run out; a full queue; boxes filled
 abbrev withNumbersOf : ℕ → ℕ → Core → Core
@@ -133,6 +134,12 @@ worked =
     ∷ gives (status (decide sessionLive setSession (whole low)) ∷ after sessionLive (decide sessionLive setSession (whole low)) .session .priority ∷ []) (0x0106 ∷ 1 ∷ [])
     -- columns first
     ∷ gives (layoutIn (listingOf film23 false) .lines ∷ layoutIn (listingOf film23 false) .counts) (3 ∷ 2 ∷ 2 ∷ 2 ∷ 0 ∷ 0 ∷ 0 ∷ [])
+    -- R-1: uneven rows and columns
+    ∷ gives (countsIn (chars "ROW\\2,1,3") ++ (countsIn (chars "COL\\6 ") ++ countsIn (chars "ROW\\1,2,3,4,5,6"))) (2 ∷ 1 ∷ 3 ∷ 6 ∷ 1 ∷ 2 ∷ 3 ∷ 4 ∷ 5 ∷ 6 ∷ [])
+    ∷ gives (countsIn (chars "ROW\\") ++ (countsIn (chars "ROW\\7") ++ (countsIn (chars "COL\\1,") ++ (countsIn (chars "COL\\12") ++ countsIn (chars "COL\\1,1,1,1,1,1,1"))))) []
+    -- the fourth box of 2, 1 and 3: in the third row, or the third column
+    ∷ gives (rowOf (layoutFrom false (2 ∷ 1 ∷ 3 ∷ [])) 4 ∷ columnOf (layoutFrom false (2 ∷ 1 ∷ 3 ∷ [])) 4 ∷ rowOf (layoutFrom true (2 ∷ 1 ∷ 3 ∷ [])) 4 ∷ columnOf (layoutFrom true (2 ∷ 1 ∷ 3 ∷ [])) 4 ∷ []) (2 ∷ 0 ∷ 0 ∷ 2 ∷ [])
+    ∷ gives (layoutIn (listingOf film23 false) .turned ∷ layoutFrom (byColumns (chars "COL\\2,1,3")) (2 ∷ 1 ∷ 3 ∷ []) .turned ∷ []) (0 ∷ 1 ∷ [])
     -- a film set
     ∷ gives (filmAfter filmLive setFilm landscape .orientation ∷ filmAfter filmLive setFilm landscape .magnification ∷ []) (1 ∷ 2 ∷ [])
     -- a box moved, filled, erased
@@ -146,5 +153,5 @@ worked =
     ∷ []
 
 pub worked-hold : AllHold worked
-unfolding numberAt bigNumberAt octets same digits component components isUid unpadded beginsWith lastDigits decimal made namedVr formOf implicitVr differs tagAt sizeAt vrAt lengthAt vrWrong lengthHead headAt itemHeadAt closeAt elementsFrom itemsOf findAt itemsAt walk trail listStep listFrom itemWith itemStep itemsFrom elementAt listAt itemAt dataSet padded tagOctets vrOctets headerSize plain header element written writtenItems sessionCreated newFilm filmCreated sessionSet filmSet boxSet sessionDeleted filmDeleted pictureOn entryOf entriesFor ticketAfter printed filledBoxes classOf generalRules createRules targetRules createPlan setPlan actionPlan deletePlan planOf decideRequest decide chars every any placeOf apart sum from bytesOf uidAt groupZero lengthTold wellFormed hasData requestIn understood rootOf uidOf boxCount boxesOf filmsOf shelved entriesOf queued boxUids named responseElements responseTree reply boxItems filmTree withoutLeading withoutTrailing trimmed blank withoutPlus decimalValue countIn codeIn labelAllowed standard countsIn sessionStandings sessionWith optionalFilm filmCreateStandings filmSetStandings filmWith layoutIn imageStandings imageIn boxStandings boxWith
-worked-hold = (refl, (refl, (refl, (refl, (refl, (refl, (refl, (refl, (refl, (refl, (refl, (refl, (refl, (refl, (refl, (refl, (refl, (refl, tt))))))))))))))))))
+unfolding numberAt bigNumberAt octets same digits component components isUid unpadded beginsWith lastDigits decimal made namedVr formOf implicitVr differs tagAt sizeAt vrAt lengthAt vrWrong lengthHead headAt itemHeadAt closeAt elementsFrom itemsOf findAt itemsAt walk trail listStep listFrom itemWith itemStep itemsFrom elementAt listAt itemAt dataSet padded tagOctets vrOctets headerSize plain header element written writtenItems sessionCreated newFilm filmCreated sessionSet filmSet boxSet sessionDeleted filmDeleted pictureOn entryOf entriesFor ticketAfter printed filledBoxes classOf generalRules createRules targetRules createPlan setPlan actionPlan deletePlan planOf decideRequest decide chars every any placeOf apart sum from bytesOf uidAt groupZero lengthTold wellFormed hasData requestIn understood rootOf uidOf boxCount boxesOf filmsOf shelved entriesOf queued boxUids named responseElements responseTree reply boxItems filmTree withoutLeading withoutTrailing trimmed blank withoutPlus decimalValue countIn codeIn labelAllowed standard listed numbersIn uneven countsIn spotOf sessionStandings sessionWith optionalFilm filmCreateStandings filmSetStandings filmWith layoutIn imageStandings imageIn boxStandings boxWith
+worked-hold = (refl, (refl, (refl, (refl, (refl, (refl, (refl, (refl, (refl, (refl, (refl, (refl, (refl, (refl, (refl, (refl, (refl, (refl, (refl, (refl, (refl, (refl, tt))))))))))))))))))))))

@@ -23,7 +23,7 @@ use Rattle.rules.specs.declared.Film.{Film}
 use Rattle.rules.specs.declared.Core.{Core}
 use Rattle.rules.specs.Text.{sessionClass}
 use Rattle.rules.specs.Lists.{any, filledTo}
-use Rattle.rules.specs.Values.{trimmed, noBytes, blank, countIn, codeIn, priorities, media, destinations, orientations, magnifications, polarities, photometrics, labelAllowed, countsIn, isUS, usIn}
+use Rattle.rules.specs.Values.{trimmed, noBytes, blank, countIn, byColumns, codeIn, priorities, media, destinations, orientations, magnifications, polarities, photometrics, labelAllowed, countsIn, isUS, usIn}
 use Rattle.rules.specs.Records.{picture, uidOf, isLive}
 use Rattle.rules.specs.Commands.{noPart, placed, bytesOf}
 
@@ -194,11 +194,12 @@ filmWith l f = record {
   boxes = f .boxes;
 }
 
-abbrev pub layoutFrom : List ℕ → Layout
-layoutFrom counts = record { lines = length counts; counts = filledTo 6 0 counts }
+-- lines that are rows or columns, of so many boxes each
+abbrev pub layoutFrom : Bool → List ℕ → Layout
+layoutFrom turned counts = record { turned = pick turned 1 0; lines = length counts; counts = filledTo 6 0 counts }
 
 unfoldable pub layoutIn : Listing → Layout
-layoutIn l = layoutFrom (countsIn (valueOf l 0x2010_0010))
+layoutIn l = layoutFrom (byColumns (valueOf l 0x2010_0010)) (countsIn (valueOf l 0x2010_0010))
 
 -- Box.
 

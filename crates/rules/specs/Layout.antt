@@ -49,9 +49,9 @@ boxFormat =
 unfoldable pub layoutFormat : Format Layout
 layoutFormat =
     via
-    (λ t. record { lines = t .0; counts = t .1 })
-    (λ x. (x .lines, x .counts))
-    (byte then array 6 byte)
+    (λ t. record { turned = t .0; lines = t .1 .0; counts = t .1 .1 })
+    (λ x. (x .turned, (x .lines, x .counts)))
+    (byte then byte then array 6 byte)
 
 unfoldable pub filmFormat : Format Film
 filmFormat =
@@ -120,7 +120,7 @@ stateFormat =
 
 -- how many bytes the records have
 abbrev pub recordsSize : ℕ
-recordsSize = 7072
+recordsSize = 7080
 
 unfoldable pub unpack : List ℕ → State
 unpack records = stateFormat .read records 0

@@ -2,6 +2,7 @@ pub mod Bounds
 pub mod Text
 pub mod Lists
 pub mod Values
+pub mod Positions
 pub mod Records
 pub mod Commands
 pub mod Attributes

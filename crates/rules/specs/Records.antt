@@ -62,7 +62,7 @@ abbrev pub noBox : ImageBox
 noBox = record { position = 0; polarity = 0; picture = picture 0 }
 
 abbrev pub noLayout : Layout
-noLayout = record { lines = 0; counts = replicate 6 0 }
+noLayout = record { turned = 0; lines = 0; counts = replicate 6 0 }
 
 abbrev pub noFilm : Film
 noFilm = record {

@@ -92,12 +92,12 @@ sessionBlank s =
     ∷ zeros (s .label)
     ∷ [])
 
--- C and R from 1 to 6: as many lines as rows, of as many boxes as columns
+-- 1 to 6 lines of 1 to 6 boxes each
 unfoldable pub layoutSound : Layout → Bool
 layoutSound l =
-    all (between 1 6 (l .lines)
-    ∷ between 1 6 (getD (l .counts) 0 0)
-    ∷ every (eqb (getD (l .counts) 0 0)) (take (l .lines) (l .counts))
+    all (flag (l .turned)
+    ∷ between 1 6 (l .lines)
+    ∷ every (between 1 6) (take (l .lines) (l .counts))
     ∷ zeros (drop (l .lines) (l .counts))
     ∷ [])
 
@@ -123,7 +123,7 @@ filmSound n f =
 abbrev pub filmBlank : Film → Bool
 filmBlank f =
     all (nameBlank (f .name)
-    ∷ zeros (f .layout .lines ∷ f .orientation ∷ f .magnification ∷ f .first .0 ∷ [])
+    ∷ zeros (f .layout .turned ∷ f .layout .lines ∷ f .orientation ∷ f .magnification ∷ f .first .0 ∷ [])
     ∷ zeros (f .layout .counts)
     ∷ every boxBlank (f .boxes)
     ∷ [])

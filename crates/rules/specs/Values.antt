@@ -1,10 +1,10 @@
 -- The records: values as PS3.5 and document 01 read them.
 use Prim.Native.Nat.{ℕ, _+_, _*_, _-_}
-use mathlib.Core.Bool.{Bool}
+use mathlib.Core.Bool.{Bool, false}
 use mathlib.Core.List.{List, [], _∷_}
 use lib.Dec.{eqb, leb}
-use lib.ListN.{length, getD, take, replicate}
-use Rattle.choice.specs.Pick.{pick, both, not}
+use lib.ListN.{length, getD, take, drop, replicate}
+use Rattle.choice.specs.Pick.{pick, both, either, not}
 use Rattle.octets.specs.Octets.{numberAt, same}
 use Rattle.uids.specs.Uids.{digits}
 use Rattle.rules.specs.Text.{chars}
@@ -96,12 +96,33 @@ standard t =
     (both (eqb (length t) 12)
     (both (oneToSix (getD t 9 0)) (both (eqb (getD t 10 0) 0x2C) (oneToSix (getD t 11 0)))))
 
--- ST, read as a layout: how many boxes each line has, columns first; none where it is not allowed
+-- numbers of one digit, 1 to 6, with a comma between two
+unfoldable pub listed : List ℕ → Bool
+listed [] = false
+listed (d ∷ []) = oneToSix d
+listed (d ∷ (c ∷ ds)) = both (oneToSix d) (both (eqb c 0x2C) (listed ds))
+
+unfoldable pub numbersIn : List ℕ → List ℕ
+numbersIn [] = []
+numbersIn (d ∷ []) = (d - 48) ∷ []
+numbersIn (d ∷ (c ∷ ds)) = (d - 48) ∷ numbersIn ds
+
+-- R-1: `ROW\r1,r2,..` and `COL\c1,c2,..`, "1 to 6 numbers, each 1 to 6"
+unfoldable pub uneven : List ℕ → Bool
+uneven t =
+    both (either (same (take 4 t) (chars "ROW\\")) (same (take 4 t) (chars "COL\\")))
+    (both (leb (length t) 15) (listed (drop 4 t)))
+
+-- "for COL by columns"
+abbrev pub byColumns : List ℕ → Bool
+byColumns v = same (take 4 v) (chars "COL\\")
+
+-- ST, read as a layout: how many boxes each line has; none where it is not allowed
 unfoldable pub countsIn : List ℕ → List ℕ
 countsIn v =
     pick (standard (withoutTrailing v))
     (replicate (getD (withoutTrailing v) 11 0 - 48) (getD (withoutTrailing v) 9 0 - 48))
-    []
+    (pick (uneven (withoutTrailing v)) (numbersIn (drop 4 (withoutTrailing v))) [])
 
 -- US: one value of two bytes
 abbrev pub isUS : List ℕ → Bool

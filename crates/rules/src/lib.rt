@@ -31,8 +31,9 @@ pub struct ImageBox {
     pub picture: Picture,
 }
 
-// How many boxes each line of a film has.
+// How many boxes each line of a film has. Lines are rows, or, where the layout is turned, columns.
 pub struct Layout {
+    pub turned: u8,
     pub lines: u8,
     pub counts: [u8; 6],
 }

@@ -27,7 +27,7 @@ use Rattle.rules.specs.Lists.{every, any, placeOf, apart, sum, from}
 use Rattle.rules.specs.Commands.{bytesOf, uidAt, groupZero, lengthTold, wellFormed, hasData, requestIn, understood}
 use Rattle.rules.specs.Records.{rootOf, uidOf, boxCount, boxesOf, filmsOf, shelved, entriesOf, queued, boxUids, named}
 use Rattle.rules.specs.Responses.{responseElements, responseTree, reply, boxItems, filmTree}
-use Rattle.rules.specs.Values.{withoutLeading, withoutTrailing, trimmed, blank, withoutPlus, decimalValue, countIn, codeIn, labelAllowed, standard, countsIn}
+use Rattle.rules.specs.Values.{withoutLeading, withoutTrailing, trimmed, blank, withoutPlus, decimalValue, countIn, codeIn, labelAllowed, standard, listed, numbersIn, uneven, countsIn}
 use Rattle.rules.specs.Attributes.{sessionStandings, sessionWith, optionalFilm, filmCreateStandings, filmSetStandings, filmWith, layoutIn, imageStandings, imageIn, boxStandings, boxWith}
 use Rattle.strike.specs.Messages.{mayBegin, unfinished, roleOfFragment, countAfter, messageOf, cutBy, struck, leftOf, answersOf, together, strikeable, says, isOf, fateOf, roleIf, roleOf, eventOf, historyFrom, history}
 use Rattle.rules.specs.Outcomes.{reportBytes, numberOf}
@@ -89,7 +89,7 @@ numbers xs = map (λ (x : Shown). x .number) xs
 computed :
     (numbers (together shown calls (answersOf (eventsOf begun calls))) ≡ 0 ∷ 0 ∷ 19 ∷ 19 ∷ 6 ∷ 16 ∷ 2 ∷ 16 ∷ 17 ∷ 18 ∷ 16 ∷ 19 ∷ [])
     × (numbers (leftOf struckOut (eventsOf begun calls) (together shown calls (answersOf (eventsOf begun calls)))) ≡ 0 ∷ 0 ∷ 19 ∷ 6 ∷ 16 ∷ 2 ∷ 16 ∷ [])
-unfolding numberAt bigNumberAt octets same digits component components isUid unpadded beginsWith lastDigits decimal made namedVr formOf implicitVr differs tagAt sizeAt vrAt lengthAt vrWrong lengthHead headAt itemHeadAt closeAt elementsFrom itemsOf findAt itemsAt walk trail listStep listFrom itemWith itemStep itemsFrom elementAt listAt itemAt dataSet padded tagOctets vrOctets headerSize plain header element written writtenItems sessionCreated newFilm filmCreated sessionSet filmSet boxSet sessionDeleted filmDeleted pictureOn entryOf entriesFor ticketAfter printed filledBoxes classOf generalRules createRules targetRules createPlan setPlan actionPlan deletePlan planOf decideRequest decide chars every any placeOf apart sum from bytesOf uidAt groupZero lengthTold wellFormed hasData requestIn understood rootOf uidOf boxCount boxesOf filmsOf shelved entriesOf queued boxUids named responseElements responseTree reply boxItems filmTree withoutLeading withoutTrailing trimmed blank withoutPlus decimalValue countIn codeIn labelAllowed standard countsIn sessionStandings sessionWith optionalFilm filmCreateStandings filmSetStandings filmWith layoutIn imageStandings imageIn boxStandings boxWith headerWrong fragmentIn skips reads gathers overflows stores collect laidBy answered carriedOut fed checked step laidIf messageAfter mayBegin unfinished roleOfFragment countAfter messageOf cutBy struck strikeable says isOf fateOf roleIf roleOf eventOf historyFrom history check started opened closed pictureBytes entryBytes taken reading leftOf together callOf shown reportBytes numberOf does
+unfolding numberAt bigNumberAt octets same digits component components isUid unpadded beginsWith lastDigits decimal made namedVr formOf implicitVr differs tagAt sizeAt vrAt lengthAt vrWrong lengthHead headAt itemHeadAt closeAt elementsFrom itemsOf findAt itemsAt walk trail listStep listFrom itemWith itemStep itemsFrom elementAt listAt itemAt dataSet padded tagOctets vrOctets headerSize plain header element written writtenItems sessionCreated newFilm filmCreated sessionSet filmSet boxSet sessionDeleted filmDeleted pictureOn entryOf entriesFor ticketAfter printed filledBoxes classOf generalRules createRules targetRules createPlan setPlan actionPlan deletePlan planOf decideRequest decide chars every any placeOf apart sum from bytesOf uidAt groupZero lengthTold wellFormed hasData requestIn understood rootOf uidOf boxCount boxesOf filmsOf shelved entriesOf queued boxUids named responseElements responseTree reply boxItems filmTree withoutLeading withoutTrailing trimmed blank withoutPlus decimalValue countIn codeIn labelAllowed standard listed numbersIn uneven countsIn sessionStandings sessionWith optionalFilm filmCreateStandings filmSetStandings filmWith layoutIn imageStandings imageIn boxStandings boxWith headerWrong fragmentIn skips reads gathers overflows stores collect laidBy answered carriedOut fed checked step laidIf messageAfter mayBegin unfinished roleOfFragment countAfter messageOf cutBy struck strikeable says isOf fateOf roleIf roleOf eventOf historyFrom history check started opened closed pictureBytes entryBytes taken reading leftOf together callOf shown reportBytes numberOf does
 computed = (refl, refl)
 
 -- and as the host is shown them

@@ -53,7 +53,7 @@ pub start-good : (k : Kept) (root : List ℕ) (serial picture : ℕ) → Bytes (
 unfolding shows does
 start-good k root serial picture o z = record { records = starts-good (k .records) (startHanded root serial picture) o z; fixed = refl }
 
--- such as a start over 7,072 zero bytes, with root 1.9.7, and a message buffer of 4,096
+-- such as a start over 7,080 zero bytes, with root 1.9.7, and a message buffer of 4,096
 abbrev pub nothingYet : Kept
 nothingYet = record { records = replicate recordsSize 0; message = replicate 4096 0 }
 

@@ -30,7 +30,7 @@ use Rattle.rules.specs.Effects.{filmAt, withFilm, withBoxes, numbersAfter, boxS
 use Rattle.rules.specs.Checks.{boxRules, setPlan, targetRules, also, imageNote, quietly, failed, answered}
 use Rattle.promises.proofs.ListLaws.{every-at}
 use Rattle.promises.proofs.Facts.{between-true, core-facts, numbers-facts, shelf-facts, film-facts}
-use Rattle.promises.proofs.Good.{box-count}
+use Rattle.promises.proofs.Layouts.{boxes-most}
 use Rattle.promises.proofs.Tidy.{shelf-few}
 use Rattle.boxes.proofs.Laws.{position-fits, fills-meant}
 use Rattle.boxes.specs.declared.Image as code
@@ -133,7 +133,7 @@ pub boxes-few : (k : Core) (i : ℕ) → coreSound k ≡ true → i < length (fi
 boxes-few k i e h =
     let shelf = shelf-facts (k .numbers) (k .session) (k .shelf) (core-facts k e .shelf) in
     let film = every-at (filmSound (k .numbers)) (filmsOf (k .shelf)) i noFilm (shelf .films) h in
-    box-count (filmAt k i .layout) (film-facts (k .numbers) (filmAt k i) film .layout) .1
+    boxes-most (filmAt k i .layout) (film-facts (k .numbers) (filmAt k i) film .layout)
 
 pub pictures-few : (k : Core) → coreSound k ≡ true → k .numbers .picture ≤ noneLeft
 pictures-few k e = between-true 1 noneLeft (k .numbers .picture) (numbers-facts (k .numbers) (core-facts k e .numbers) .picture) .1

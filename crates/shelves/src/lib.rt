@@ -84,6 +84,7 @@ pub fn no_film() -> Film
     Film {
         name: no_name(),
         layout: Layout {
+            turned: 0,
             lines: 0,
             counts: [0; 6],
         },

@@ -18,7 +18,7 @@ ghost use Rattle.rules.specs.Outcomes.{takes};
 ghost use Rattle.runs.specs.Host.{takeHanded};
 
 // The bytes of the records.
-const RECORDS: usize = 7072;
+const RECORDS: usize = 7080;
 
 fn take_refusal(k: Core, room: usize) -> u32
     requires { ⌜ queued (entriesOf (k .queue)) ≡ k .queue ⌝ }

@@ -1,2 +1,2 @@
 -- What one turn of each loop does.
-mod Turns
+pub mod Turns

@@ -1,56 +1,8 @@
-// Values: layouts, codes and numbers as the book reads them.
+// Values: codes and numbers as the book reads them.
 ghost use mathlib.Core.Path.{_≡_};
 ghost use Prim.Native.Nat.{_≤_, _<_};
 ghost use lib.ListN.{replicate};
-ghost use Rattle.rules.specs.Values.{oneToSix, standard, countsIn, codeIn, priorities, media, destinations, orientations, magnifications, polarities, photometrics, usIn};
-
-// How many lines a layout has, and how many boxes each line; none where it is not allowed.
-pub struct Grid {
-    pub lines: u8,
-    pub boxes: u8,
-}
-
-fn one_to_six(b: u8) -> bool
-    ensures { λ r. ⌜ r ≡ oneToSix b ⌝ }
-{
-    if b < 49 {
-        return false;
-    }
-    b <= 54
-}
-
-// Whether a text is STANDARD with columns and rows.
-fn is_standard(t: &[u8]) -> bool
-    ensures { λ r. ⌜ r ≡ standard (now (t .entry)) ⌝ }
-{
-    if t.len() != 12 {
-        return false;
-    }
-    if !octets::same_bytes(&t[0..9], b"STANDARD\\") {
-        return false;
-    }
-    if !one_to_six(t[9]) {
-        return false;
-    }
-    if t[10] != b',' {
-        return false;
-    }
-    one_to_six(t[11])
-}
-
-// A layout: columns first, then rows.
-pub fn counts_in(s: &[u8]) -> Grid
-    ensures { λ r. ⌜ (replicate (r .lines) (r .boxes) ≡ countsIn (now (s .entry))) × (r .lines ≤ 6) × (r .boxes ≤ 6) ⌝ }
-{
-    let t = texts::without_trailing(s);
-    if !is_standard(t) {
-        return Grid { lines: 0, boxes: 0 };
-    }
-    Grid {
-        lines: t[11] - 48,
-        boxes: t[9] - 48,
-    }
-}
+ghost use Rattle.rules.specs.Values.{codeIn, priorities, media, destinations, orientations, magnifications, polarities, photometrics, usIn};
 
 // The place of a priority; 3 where it is none.
 pub fn priority_in(s: &[u8]) -> usize

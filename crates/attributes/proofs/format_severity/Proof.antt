@@ -1,7 +1,8 @@
-use mathlib.Core.Path.{sym, ap, _∙_}
+use mathlib.Core.Path.{ap, _∙_}
 use lib.Dec.{eqb}
-use lib.ListN.{length, length-replicate}
+use lib.ListN.{length}
 use Rattle.choice.specs.Pick.{not}
+use Rattle.rules.specs.declared.Layout.{Layout}
 use Rattle.rules.specs.Values.{blank, countsIn}
 use Rattle.rules.specs.Attributes.{listingOf, look}
 use Rattle.attributes.proofs.Laws.{nots, mandatory-told}
@@ -14,9 +15,9 @@ returns c =
     let a = c .before .before .before .before .before .before .before .args in
     let l = listingOf (a .d .now) (a .explicit) in
     let at = c .before .before .before .before .before .look .ensures in
-    let grid = c .before .before .before .counts-in in
+    let layout = c .before .before .before .layout-in in
     mandatory-told blank (λ v. not (eqb (length (countsIn v)) 0)) l (look l 0x2010_0010) (at .0) (at .1) (c .before .before .before .before .value .ensures) (c .before .before .is-blank .ensures)
-    (nots (eqb (grid .result .lines) 0) ∙ ap (λ n. not (eqb n 0)) (sym (length-replicate (grid .result .lines) (grid .result .boxes)) ∙ ap length (grid .ensures .0)))
+    (nots (eqb (layout .result .lines) 0) ∙ ap (λ (r : Layout). not (eqb (r .lines) 0)) (layout .ensures))
     (c .severity .ensures)
 
 pub format-severity-spec : {M : Type 1} → statement M

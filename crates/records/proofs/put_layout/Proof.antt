@@ -10,14 +10,17 @@ unfolding layoutFormat layout-steps
 returns c =
     let counts = c .before .before in
     let lines = counts .before .before .before .before .before in
-    let start = lines .before .before .before in
+    let turned = lines .before .before .before .before in
+    let start = turned .before .before .before in
     let a = start .args in
-    rw (layout-steps .same (a .x) (now (a .s)) (a .p) (start .pre), counts .put-bytes6 .ensures, lines .put-byte .ensures)
+    rw (layout-steps .same (a .x) (now (a .s)) (a .p) (start .pre), counts .put-bytes6 .ensures, lines .put-byte2 .ensures, turned .put-byte .ensures)
 
 pub put-layout-spec : {M : Type 1} → statement M
 put-layout-spec =
     tie.close
     (tie.spec
+    (λ c κs. search needs)
+    (λ c. search needs)
     (λ c κs. search needs)
     (λ c. search needs)
     (λ c κs. search needs)

@@ -1,10 +1,10 @@
 use mathlib.Core.Path.{sym, _∙_}
 use borrow.Author.Tests.{not-true, not-false}
 use Rattle.rules.specs.Text.{chars}
-use Rattle.values.proofs.Turns.{standard-short, standard-other, standard-columns, standard-comma, standard-rows}
+use Rattle.layouts.proofs.Laws.{standard-short, standard-other, standard-columns, standard-comma, standard-rows}
 use borrow.Author.Needs.{needs}
-use Rattle.values.proofs.is_standard.Statement.{statement}
-use Rattle.values.proofs.is_standard.Tie as tie
+use Rattle.layouts.proofs.is_standard.Statement.{statement}
+use Rattle.layouts.proofs.is_standard.Tie as tie
 
 returns : tie.Need-returns
 returns c = standard-short _ (c .if1 .taken)

@@ -1,6 +1,6 @@
 use borrow.Author.Tests.{le-leb, lt-leb}
-use Rattle.values.proofs.one_to_six.Statement.{statement}
-use Rattle.values.proofs.one_to_six.Tie as tie
+use Rattle.layouts.proofs.one_to_six.Statement.{statement}
+use Rattle.layouts.proofs.one_to_six.Tie as tie
 
 returns : tie.Need-returns
 returns c = simp (lt-leb 49 _ (c .if1 .taken))

@@ -1,0 +1,55 @@
+use mathlib.Core.Path.{sym, ap, _∙_}
+use borrow.Author.Tests.{not-true, not-false}
+use Rattle.rules.specs.Text.{chars}
+use Rattle.rules.specs.Values.{listed}
+use Rattle.texts.proofs.Turns.{rest}
+use Rattle.layouts.proofs.Laws.{uneven-short, uneven-long, uneven-row, uneven-column, uneven-other}
+use borrow.Author.Needs.{needs}
+use Rattle.layouts.proofs.is_uneven.Statement.{statement}
+use Rattle.layouts.proofs.is_uneven.Tie as tie
+
+returns : tie.Need-returns
+returns c = uneven-short _ (c .if1 .taken)
+
+returns-2 : tie.Need-returns-2
+returns-2 c = uneven-long _ (c .if2 .taken)
+
+returns-3 : tie.Need-returns-3
+unfolding chars
+returns-3 c = c .is-listed .ensures ∙ ap listed (rest (c .before .before .before .before .before .before .before .before .before .args .t .now) 4) ∙ uneven-row _ (c .before .before .before .before .before .before .if2 .left) (sym (c .before .before .before .same-bytes .ensures) ∙ c .before .before .if3 .taken)
+
+returns-4 : tie.Need-returns-4
+unfolding chars
+returns-4 c =
+    c .is-listed2 .ensures
+    ∙ ap listed (rest (c .before .before .before .before .before .before .before .before .before .before .before .before .args .t .now) 4)
+    ∙ uneven-column _ (c .before .before .before .before .before .before .before .before .before .if2 .left) (sym (c .before .before .before .before .before .before .same-bytes .ensures) ∙ c .before .before .before .before .before .if3 .left) (sym (c .before .before .before .same-bytes2 .ensures) ∙ c .before .before .if4 .taken)
+
+returns-5 : tie.Need-returns-5
+unfolding chars
+returns-5 c = uneven-other _ (c .before .before .before .before .before .before .before .if2 .left) (sym (c .before .before .before .before .same-bytes .ensures) ∙ c .before .before .before .if3 .left) (sym (c .before .same-bytes2 .ensures) ∙ c .if4 .left)
+
+pub is-uneven-spec : {M : Type 1} → statement M
+is-uneven-spec =
+    tie.close
+    (tie.spec
+    returns
+    returns-2
+    (λ c. search needs)
+    (λ c. search needs)
+    (λ c. search needs)
+    (λ c. search needs)
+    (λ c κs. search needs)
+    (λ c. search needs)
+    (λ c. search needs)
+    (λ c. search needs)
+    (λ c κs. search needs)
+    returns-3
+    (λ c. search needs)
+    (λ c κs. search needs)
+    (λ c. search needs)
+    (λ c. search needs)
+    (λ c. search needs)
+    (λ c κs. search needs)
+    returns-4
+    returns-5)

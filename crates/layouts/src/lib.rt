@@ -1,0 +1,150 @@
+// Layouts: the lines of boxes that a film's format gives.
+use rules::Layout;
+ghost use mathlib.Core.Bool.{true};
+ghost use mathlib.Core.Path.{_≡_};
+ghost use Prim.Native.Nat.{_≤_};
+ghost use lib.ListN.{length, replicate};
+ghost use Rattle.choice.specs.Pick.{pick};
+ghost use Rattle.rules.specs.Lists.{filledTo};
+ghost use Rattle.rules.specs.Values.{oneToSix, standard, listed, numbersIn, uneven, byColumns, countsIn};
+ghost use Rattle.rules.specs.Attributes.{layoutFrom};
+
+fn one_to_six(b: u8) -> bool
+    ensures { λ r. ⌜ r ≡ oneToSix b ⌝ }
+{
+    if b < 49 {
+        return false;
+    }
+    b <= 54
+}
+
+// Whether a text is STANDARD with columns and rows.
+fn is_standard(t: &[u8]) -> bool
+    ensures { λ r. ⌜ r ≡ standard (now (t .entry)) ⌝ }
+{
+    if t.len() != 12 {
+        return false;
+    }
+    if !octets::same_bytes(&t[0..9], b"STANDARD\\") {
+        return false;
+    }
+    if !one_to_six(t[9]) {
+        return false;
+    }
+    if t[10] != b',' {
+        return false;
+    }
+    one_to_six(t[11])
+}
+
+// Whether a text is numbers with a comma between two.
+fn is_listed(s: &[u8]) -> bool
+    ensures { λ r. ⌜ r ≡ listed (now (s .entry)) ⌝ }
+{
+    let mut i = 0;
+    while i < s.len() {
+        if !one_to_six(s[i]) {
+            return false;
+        }
+        i += 1;
+        if i == s.len() {
+            return true;
+        }
+        if s[i] != b',' {
+            return false;
+        }
+        i += 1;
+    }
+    false
+}
+
+// Whether a text is ROW or COL with its numbers.
+fn is_uneven(t: &[u8]) -> bool
+    ensures { λ r. ⌜ r ≡ uneven (now (t .entry)) ⌝ }
+{
+    if t.len() < 4 {
+        return false;
+    }
+    if 15 < t.len() {
+        return false;
+    }
+    let word = &t[0..4];
+    if octets::same_bytes(word, b"ROW\\") {
+        return is_listed(&t[4..]);
+    }
+    if octets::same_bytes(word, b"COL\\") {
+        return is_listed(&t[4..]);
+    }
+    false
+}
+
+// So many lines of so many boxes.
+fn even_counts(lines: u8, boxes: u8) -> [u8; 6]
+    requires { ⌜ lines ≤ 6 ⌝ }
+    ensures { λ r. ⌜ r ≡ filledTo 6 0 (replicate lines boxes) ⌝ }
+{
+    let n = lines as usize;
+    let mut counts = [0; 6];
+    let mut i = 0;
+    while i < n {
+        counts[i] = boxes;
+        i += 1;
+    }
+    counts
+}
+
+// A line for each number.
+fn listed_counts(s: &[u8]) -> [u8; 6]
+    requires { ⌜ (listed (now s) ≡ true) × (length (now s) ≤ 11) ⌝ }
+    ensures { λ r. ⌜ r ≡ filledTo 6 0 (numbersIn (now (s .entry))) ⌝ }
+{
+    let mut counts = [0; 6];
+    let mut i = 0;
+    while 2 * i < s.len() {
+        counts[i] = s[2 * i] - 48;
+        i += 1;
+    }
+    counts
+}
+
+// 1 where the lines are columns, else 0.
+fn turned_in(s: &[u8]) -> u8
+    ensures { λ r. ⌜ r ≡ pick (byColumns (now (s .entry))) 1 0 ⌝ }
+{
+    if s.len() < 4 {
+        return 0;
+    }
+    if octets::same_bytes(&s[0..4], b"COL\\") {
+        return 1;
+    }
+    0
+}
+
+// The layout that a format gives, columns before rows; no lines where it is not allowed.
+pub fn layout_in(s: &[u8]) -> Layout
+    ensures { λ r. ⌜ r ≡ layoutFrom (byColumns (now (s .entry))) (countsIn (now (s .entry))) ⌝ }
+{
+    let turned = turned_in(s);
+    let t = texts::without_trailing(s);
+    if is_standard(t) {
+        let lines = t[11] - 48;
+        let boxes = t[9] - 48;
+        return Layout {
+            turned,
+            lines,
+            counts: even_counts(lines, boxes),
+        };
+    }
+    if is_uneven(t) {
+        return Layout {
+            turned,
+            lines: ((t.len() - 3) / 2) as u8,
+            counts: listed_counts(&t[4..]),
+        };
+    }
+    Layout {
+        turned,
+        lines: 0,
+        counts: [0; 6],
+    }
+}
