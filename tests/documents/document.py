@@ -27,8 +27,8 @@ class Document:
         return [(number, target) for number, line in self.prose for target in LINK.findall(CODE.sub(r"\1", line))]
 
     def commands(self):
-        """The first word of each line of a code block."""
-        return [(number, line.split()[0]) for number, line in self.code if line.strip()]
+        """The words of each line of a code block."""
+        return [(number, line.split()) for number, line in self.code if line.strip()]
 
     def cited(self):
         """The names that stand before links in brackets, and those links' targets."""
