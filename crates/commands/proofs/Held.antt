@@ -41,3 +41,11 @@ module _ {c : List ℕ} {places : List Part} (h : Holds c places) (tag : ℕ) (l
 
   pub held-uid : isUid (uidAt c (getD places (slotOf tag) noPart)) ≡ hasUid c tag
   held-uid = ap (λ p. isUid (uidAt c p)) (h .each tag l)
+
+-- a length of four bytes stands behind a header of eight
+pub twelve-at-least : {c : List ℕ} {places : List Part} → Holds c places → size (getD places 0 noPart) ≡ 4 → 12 ≤ length c
+unfolding slotOf
+twelve-at-least h e =
+    let i = held-in h 0x0000_0000 (omega arith) in
+    let b = held-behind h 0x0000_0000 (omega arith) in
+    omega arith
