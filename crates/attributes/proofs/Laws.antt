@@ -1,14 +1,14 @@
 -- What is told of attributes one by one, and what the worst of them says.
 -- Assumes nothing.
-use Prim.Native.Nat.{ℕ, _≤_, _<_, _-_, _+_, suc}
+use Prim.Native.Nat.{ℕ, _≤_, _-_, _+_}
 use mathlib.Core.Path.{_≡_, refl, sym, ap, _∙_}
 use mathlib.Core.Bool as bool
 use mathlib.Core.Bool.{Bool, true, false}
 use mathlib.Core.List.{List, [], _∷_, _++_}
 use native.Mathlib.Omega.{arith}
-use lib.Dec.{eqb, leb, ltb}
-use lib.ListN.{length, set, drop, replicate, length-replicate, replicate-append-replicate}
-use lib.Seq.{append-snoc, set-at, drop-at}
+use lib.Dec.{leb, ltb}
+use lib.ListN.{length, drop, replicate, length-replicate, replicate-append-replicate}
+use lib.Seq.{drop-at}
 use borrow.Author.Tests.{ltb-true, ltb-false, leb-true, eqb-true}
 use Rattle.choice.specs.Pick.{pick, either, not}
 use Rattle.choice.specs.Rules.{firstBroken}
@@ -20,7 +20,7 @@ use Rattle.elements.specs.declared.Found.the-variants.{Missing, Value, Sequence
 use Rattle.rules.specs.Lists.{any, every, filledTo}
 use Rattle.rules.specs.Values.{blank, trimmed, withoutLeading, withoutTrailing, labelByte, labelAllowed}
 use Rattle.rules.specs.Commands.{placed, bytesOf}
-use Rattle.rules.specs.Attributes.{Listing, Standing, missing, empty, wrong, fine, is, look, valueOf, mandatory, optional, given, orKept, attributeRules, sessionStandings, mustBeAbsent, layoutFrom}
+use Rattle.rules.specs.Attributes.{Listing, Standing, missing, empty, wrong, fine, is, look, valueOf, mandatory, optional, given, orKept, attributeRules, sessionStandings, mustBeAbsent}
 use Rattle.standings.specs.Severity.{kindOf, severity, severityBy, optionalBy, givenBy, worse, rank, worst, statusOf}
 use Rattle.standings.proofs.Laws.{valueAt, mandatory-severity, optional-severity, given-by, worst-cons, worst-status}
 

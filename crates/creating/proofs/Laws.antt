@@ -1,6 +1,6 @@
 -- What checks 8 and 9 leave, and what the creation of a session or a film means.
 -- Assumes nothing.
-use Prim.Native.Nat.{ℕ, suc, _+_, _-_, _<_, _≤_}
+use Prim.Native.Nat.{ℕ, _+_, _-_, _<_, _≤_}
 use mathlib.Core.Path.{_≡_, refl, sym, ap, subst, _∙_}
 use mathlib.Core.Bool.{Bool, true, false}
 use mathlib.Core.List.{List, [], _∷_, _++_}
@@ -22,7 +22,6 @@ use Rattle.rules.specs.declared.Shelf.{Shelf}
 use Rattle.rules.specs.declared.Core.{Core}
 use Rattle.rules.specs.declared.Request.{Request}
 use Rattle.rules.specs.Bounds.{mostFilms, noneLeft}
-use Rattle.rules.specs.Lists.{sum}
 use Rattle.rules.specs.Values.{blank, byColumns, countsIn}
 use Rattle.rules.specs.Records.{noName, madeName, sentName, uidOf, boxCount, filmsOf, shelved, isLive, withNumbers, withFilms, serialsUsed, boxUids}
 use Rattle.rules.specs.Commands.{size, bytesOf, uidAt}

@@ -1,6 +1,6 @@
 -- Records that keep their rules, with arrays of their lengths, fit their fields: packed and unpacked, they are the same.
 -- Assumes nothing.
-use Prim.Native.Nat.{ℕ, zero, suc, _+_, _<_, _≤_}
+use Prim.Native.Nat.{ℕ, suc, _+_, _<_, _≤_}
 use mathlib.Core.Path.{_≡_, refl, subst}
 use mathlib.Core.Bool.{Bool, true, false}
 use mathlib.Core.List.{List, [], _∷_, _++_, append-assoc}
@@ -31,7 +31,7 @@ use Rattle.rules.specs.declared.Numbers.{Numbers}
 use Rattle.rules.specs.declared.Opened.{Opened}
 use Rattle.rules.specs.declared.Core.{Core}
 use Rattle.rules.specs.declared.Input.{Input}
-use Rattle.rules.specs.Lists.{every, sum, filledTo}
+use Rattle.rules.specs.Lists.{every, filledTo}
 use Rattle.rules.specs.Values.{trimmed, labelByte, labelAllowed}
 use Rattle.rules.specs.Records.{rootOf, boxCount, boxesOf, filmsOf, entriesOf, isLive}
 use Rattle.rules.specs.Sound.{between, zeros, flag, nameSound, sentSound, madeSound, nameBlank, numbersSound, sessionSound, sessionBlank, layoutSound, boxSound, boxBlank, filmSound, filmBlank, shelfSound, entrySound, entryBlank, queueSound, openSound, openedSound, coreSound}

@@ -5,11 +5,14 @@ use mathlib.Core.Path.{_≡_, refl, ap, _∙_}
 use mathlib.Core.Bool.{Bool, true, false}
 use mathlib.Core.List.{List, [], _∷_}
 use native.Mathlib.Omega.{arith}
-use lib.Dec.{ltb}
-use lib.ListN.{length, getD, take, replicate}
+use lib.Dec.{eqb, ltb}
+use lib.ListN.{take, replicate}
 use borrow.Author.Tests.{ltb-true, ltb-false, lt-ltb, le-ltb}
+use Rattle.choice.specs.Pick.{pick}
+use Rattle.rules.specs.declared.Layout.{Layout}
 use Rattle.rules.specs.Lists.{sum}
-use Rattle.rules.specs.Positions.{Spot, Within, spotOf, before}
+use Rattle.rules.specs.Records.{boxCount}
+use Rattle.rules.specs.Positions.{Spot, Within, spotOf, before, spotAt, rowOf, columnOf}
 
 pub record Numbered (counts : List ℕ) : Type 0 where
   -- each position up to the sum stands somewhere, after as many boxes
@@ -80,3 +83,23 @@ pub even-sum : (rows columns : ℕ) → sum (replicate rows columns) ≡ rows * 
 unfolding sum
 even-sum zero columns = omega arith
 even-sum (suc rows) columns = let t = even-sum rows columns in omega arith
+
+-- Two boxes of a film do not stand in one place, whether its lines are rows or columns.
+
+module _ (l : Layout) (p q : ℕ) (low : (1 ≤ p) × (1 ≤ q)) (high : (p ≤ boxCount l) × (q ≤ boxCount l)) where
+  one-spot : spotAt l p .line ≡ spotAt l q .line → spotAt l p .place ≡ spotAt l q .place → p ≡ q
+  unfolding boxCount
+  one-spot e f =
+      let counts = take (l .lines) (l .counts) in
+      let a = numbering counts .stands (p - 1) (omega (arith, low .0, high .0)) .1 in
+      let b = numbering counts .stands (q - 1) (omega (arith, low .1, high .1)) .1 in
+      let c : before counts (spotAt l p) ≡ before counts (spotAt l q) = rw (e, f) refl in
+      omega (arith, low .0, low .1, a, b, c)
+
+  one-by : (rows : Bool) → pick rows (spotAt l p .line) (spotAt l p .place) ≡ pick rows (spotAt l q .line) (spotAt l q .place)
+      → pick rows (spotAt l p .place) (spotAt l p .line) ≡ pick rows (spotAt l q .place) (spotAt l q .line) → p ≡ q
+  one-by true e f = one-spot e f
+  one-by false e f = one-spot f e
+
+  pub one-place : rowOf l p ≡ rowOf l q → columnOf l p ≡ columnOf l q → p ≡ q
+  one-place e f = one-by (eqb (l .turned) 0) e f

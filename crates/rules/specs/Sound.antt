@@ -3,7 +3,7 @@ use Prim.Native.Nat.{ℕ, _+_, _%_}
 use mathlib.Core.Bool.{Bool, true, false}
 use mathlib.Core.List.{List, [], _∷_, map}
 use lib.Dec.{eqb, leb, ltb}
-use lib.ListN.{length, getD, take, drop}
+use lib.ListN.{length, take, drop}
 use Rattle.choice.specs.Pick.{pick, both, not}
 use Rattle.octets.specs.Octets.{same}
 use Rattle.uids.specs.Uids.{isUid, beginsWith}

@@ -1,18 +1,12 @@
 -- What each test of a code and of a layout says.
 -- Assumes nothing.
-use Prim.Native.Nat.{ℕ, suc, _-_, _<_, _≤_}
+use Prim.Native.Nat.{ℕ, suc}
 use mathlib.Core.Path.{_≡_, refl, ap, _∙_}
 use mathlib.Core.Bool.{true, false}
 use mathlib.Core.List.{List, [], _∷_}
-use native.Mathlib.Omega.{arith}
-use lib.Dec.{eqb, leb}
-use lib.ListN.{length, getD, take, replicate}
-use borrow.Author.Tests.{eq-eqb, ne-eqb, leb-true, eqb-true}
-use Rattle.choice.proofs.Picks.{pick-cases, both-true}
 use Rattle.octets.specs.Octets.{same}
-use Rattle.rules.specs.Text.{chars}
 use Rattle.rules.specs.Lists.{placeOf}
-use Rattle.rules.specs.Values.{withoutTrailing, trimmed, codeIn, oneToSix, standard, listed, numbersIn, uneven, countsIn}
+use Rattle.rules.specs.Values.{trimmed, codeIn}
 
 -- A code, text by text.
 

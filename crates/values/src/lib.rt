@@ -1,7 +1,6 @@
 // Values: codes and numbers as the book reads them.
 ghost use mathlib.Core.Path.{_≡_};
 ghost use Prim.Native.Nat.{_≤_, _<_};
-ghost use lib.ListN.{replicate};
 ghost use Rattle.rules.specs.Values.{codeIn, priorities, media, destinations, orientations, magnifications, polarities, photometrics, usIn};
 
 // The place of a priority; 3 where it is none.

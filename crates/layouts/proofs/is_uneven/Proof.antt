@@ -1,5 +1,4 @@
 use mathlib.Core.Path.{sym, ap, _∙_}
-use borrow.Author.Tests.{not-true, not-false}
 use Rattle.rules.specs.Text.{chars}
 use Rattle.rules.specs.Values.{listed}
 use Rattle.texts.proofs.Turns.{rest}
