@@ -132,7 +132,7 @@ fn gathered(c: &[u8]) -> Places
         if let Close::Here(_) = close {
             return Places { whole: true, parts };
         }
-        let head = headers::element_head(c, false, whole.stop, p, floor);
+        let head = syntaxes::element_head(c, false, whole.stop, p, floor);
         match behind(c, p, floor, head) {
             Read::Past(q) => {
                 let t = headers::tag_at(c, p);

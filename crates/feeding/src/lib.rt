@@ -52,7 +52,7 @@ fn put_uid(out: &mut [u8], n: Numbers, name: Name) -> usize
         return put_text(out, text, name.used as usize);
     }
     let root = n.root;
-    uids::put_made(out, 0, naming::front(&root, n.used as usize), serial.0)
+    making::put_made(out, 0, naming::front(&root, n.used as usize), serial.0)
 }
 
 // The created film's data set, no bytes where no film was created: how many bytes it has.

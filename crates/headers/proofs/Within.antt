@@ -1,12 +1,12 @@
 -- What a header holds, and where a list closes, lies between its place and the enclosing end.
 -- Assumes nothing.
-use mathlib.Core.Path.{ap}
+use mathlib.Core.Path.{_≡_, refl, ap}
 use Prim.Native.Nat.{ℕ, _+_, _-_, _≤_}
-use mathlib.Core.Bool.{Bool}
+use mathlib.Core.Bool.{Bool, true, false}
 use mathlib.Core.List.{List}
 use native.Mathlib.Omega.{arith}
 use lib.Dec.{ltb, eqb}
-use borrow.Author.Tests.{ltb-false}
+use borrow.Author.Tests.{ltb-false, eq-eqb}
 use Rattle.choice.specs.Pick.{not}
 use Rattle.choice.proofs.Picks.{pick-cases, first-cases, both-second, both-first}
 use Rattle.octets.specs.Octets.{numberAt}
@@ -16,7 +16,7 @@ use Rattle.headers.specs.declared.Head.the-variants.{Fault, Value, Nest}
 use Rattle.headers.specs.declared.Close.{Close}
 use Rattle.headers.specs.declared.Close.the-variants.{Here, Not}
 use Rattle.tags.specs.Table.{SQ, undefined}
-use Rattle.headers.specs.Header.{tagAt, longAt, sizeAt, vrAt, lengthAt, content, lengthRules, lengthHead, elementRules, headAt, itemRules, itemHeadAt, closeAt}
+use Rattle.headers.specs.Header.{tagAt, groupAt, longAt, sizeAt, vrAt, lengthAt, content, lengthRules, lengthHead, elementRules, headAt, itemRules, itemHeadAt, closeAt}
 
 abbrev pub CloseIn : ℕ → ℕ → Close → Type 0
 CloseIn at end (Here q) = (at ≤ q) × (q ≤ end)
@@ -45,6 +45,12 @@ close-in s mark inside at h =
 pub size-least : (s : List ℕ) (explicit : Bool) (at : ℕ) → 8 ≤ sizeAt s explicit at
 unfolding sizeAt
 size-least s explicit at = pick-cases (λ (n : ℕ). 8 ≤ n) (longAt s explicit at) 12 8 (λ _. omega arith) (λ _. omega arith)
+
+-- a header of group FFFE has no VR, and eight bytes
+pub mark-size : (s : List ℕ) (explicit : Bool) (at : ℕ) → groupAt s at ≡ 0xFFFE → sizeAt s explicit at ≡ 8
+unfolding sizeAt
+mark-size s true at e = rw (eq-eqb _ _ e)
+mark-size s false at e = refl
 
 length-in : (low from end vr length : ℕ) → low ≤ from → from ≤ end → HeadIn low end (lengthHead from end vr length)
 unfolding lengthHead

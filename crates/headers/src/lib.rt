@@ -1,17 +1,11 @@
-// Headers: what the header of an element or an item says, and where a list or a sequence ends.
+// Headers: what a header says of its length, the header of an item, and where a list or a sequence ends.
 use octets::u16_at;
 use octets::u32_at;
 use tags::SQ;
-use tags::form_of;
-use tags::implicit_vr;
-use tags::vr_differs;
 ghost use mathlib.Core.Path.{_≡_};
 ghost use Prim.Native.Nat.{_+_, _≤_, _<_};
-ghost use mathlib.Core.Bool.{true, false};
 ghost use lib.ListN.{length};
-ghost use Rattle.octets.specs.Octets.{numberAt};
-ghost use Rattle.tags.specs.Table.{formOf};
-ghost use Rattle.headers.specs.Header.{tagAt, lengthHead, headAt, itemHeadAt, closeAt};
+ghost use Rattle.headers.specs.Header.{tagAt, lengthHead, itemHeadAt, closeAt};
 
 // The bytes of a value.
 pub struct Part {
@@ -70,7 +64,7 @@ pub fn closing(s: &[u8], mark: usize, inside: Inside, at: usize) -> Close
 }
 
 // What is behind a header, by its VR and length: refusals 5, 2 and 1.
-fn length_head(from: usize, end: usize, vr: usize, length: usize) -> Head
+pub fn length_head(from: usize, end: usize, vr: usize, length: usize) -> Head
     requires { ⌜ from ≤ end ⌝ }
     ensures { λ r. ⌜ r ≡ lengthHead from end vr length ⌝ }
 {
@@ -115,83 +109,4 @@ pub fn item_head(s: &[u8], end: usize, at: usize) -> Head
         return Head::Fault(6);
     }
     length_head(at + 8, end, SQ as usize, u32_at(s, at + 4))
-}
-
-// The header of an element in implicit VR.
-fn implicit_head(s: &[u8], end: usize, at: usize, floor: usize) -> Head
-    requires { ⌜ (at + 8 ≤ end) × (end ≤ length (now s)) ⌝ }
-    ensures { λ r. ⌜ r ≡ headAt (now (s .entry)) false end at floor ⌝ }
-{
-    if u16_at(s, at) == 0xFFFE {
-        return Head::Fault(6);
-    }
-    let tag = tag_at(s, at);
-    if tag < floor {
-        return Head::Fault(3);
-    }
-    let length = u32_at(s, at + 4);
-    length_head(at + 8, end, implicit_vr(tag, length), length)
-}
-
-// The header of an element in explicit VR with a long-form VR.
-fn long_head(s: &[u8], end: usize, at: usize, floor: usize) -> Head
-    requires { ⌜ (at + 8 ≤ end) × (end ≤ length (now s)) ⌝ }
-    requires { ⌜ (numberAt 2 (now s) at ≡ 0xFFFE → ⊥) × (formOf (numberAt 2 (now s) (at + 4)) ≡ 12) ⌝ }
-    ensures { λ r. ⌜ r ≡ headAt (now (s .entry)) true end at floor ⌝ }
-{
-    if end - at < 12 {
-        return Head::Fault(1);
-    }
-    let tag = tag_at(s, at);
-    if tag < floor {
-        return Head::Fault(3);
-    }
-    if u16_at(s, at + 6) != 0 {
-        return Head::Fault(4);
-    }
-    let vr = u16_at(s, at + 4);
-    if vr_differs(tag, vr) {
-        return Head::Fault(4);
-    }
-    length_head(at + 12, end, vr, u32_at(s, at + 8))
-}
-
-// The header of an element in explicit VR.
-fn explicit_head(s: &[u8], end: usize, at: usize, floor: usize) -> Head
-    requires { ⌜ (at + 8 ≤ end) × (end ≤ length (now s)) ⌝ }
-    ensures { λ r. ⌜ r ≡ headAt (now (s .entry)) true end at floor ⌝ }
-{
-    if u16_at(s, at) == 0xFFFE {
-        return Head::Fault(6);
-    }
-    let vr = u16_at(s, at + 4);
-    let form = form_of(vr);
-    if form == 12 {
-        return long_head(s, end, at, floor);
-    }
-    let tag = tag_at(s, at);
-    if tag < floor {
-        return Head::Fault(3);
-    }
-    if form == 0 {
-        return Head::Fault(4);
-    }
-    if vr_differs(tag, vr) {
-        return Head::Fault(4);
-    }
-    length_head(at + 8, end, vr, u16_at(s, at + 6))
-}
-
-// The header of an element, whose tag must not be below `floor`.
-pub fn element_head(s: &[u8], explicit: bool, end: usize, at: usize, floor: usize) -> Head
-    requires { ⌜ (at ≤ end) × (end ≤ length (now s)) ⌝ }
-    ensures { λ r. ⌜ r ≡ headAt (now (s .entry)) explicit end at floor ⌝ }
-{
-    if end - at < 8 {
-        return Head::Fault(1);
-    }
-    if explicit {
-        return explicit_head(s, end, at, floor);
-    }
-    implicit_head(s, end, at, floor)
 }

@@ -24,7 +24,7 @@ pub fn is_made(root: &[u8], serial: u32, uid: &[u8]) -> bool
     ensures { λ r. ⌜ r ≡ same (now (uid .entry)) (made (now (root .entry)) serial) ⌝ }
 {
     let mut out = [0; 64];
-    let end = uids::put_made(&mut out, 0, root, serial);
+    let end = making::put_made(&mut out, 0, root, serial);
     octets::same_bytes(uid, &out[0..end])
 }
 

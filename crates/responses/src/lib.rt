@@ -1,13 +1,13 @@
 // Responses, the created film's data set and the report, written into lent buffers.
 use headings::put_header;
 use headings::put_item;
+use making::put_made;
 use octets::put_number;
 use putting::put_element;
 use putting::put_ul;
 use putting::put_us;
 use tags::SQ;
 use tags::UI;
-use uids::put_made;
 ghost use mathlib.Core.Bool.{false};
 ghost use mathlib.Core.List.{map};
 ghost use mathlib.Core.Path.{_≡_};

@@ -1,7 +1,7 @@
 // Tags: the value representations (VR) and the tags that document 01 names.
 use choice::Row;
 ghost use mathlib.Core.Path.{_≡_};
-ghost use Rattle.tags.specs.Table.{namedVr, formOf, implicitVr, differs};
+ghost use Rattle.tags.specs.Table.{namedVr, formOf};
 
 // A VR is its two letters as they stand in the bytes: a 16-bit number, little endian.
 pub const AE: u32 = 0x4541;
@@ -159,38 +159,4 @@ pub fn named_vr(tag: usize) -> usize
         i += 1;
     }
     0
-}
-
-// The VR of an element in implicit VR, by its tag and length.
-pub fn implicit_vr(tag: usize, length: usize) -> usize
-    ensures { λ r. ⌜ r ≡ implicitVr tag length ⌝ }
-{
-    let named = named_vr(tag);
-    if named != 0 {
-        return named;
-    }
-    if length == 0xFFFF_FFFF {
-        return SQ as usize;
-    }
-    UN as usize
-}
-
-// Whether a VR is not that of the named tag that bears it.
-pub fn vr_differs(tag: usize, vr: usize) -> bool
-    ensures { λ r. ⌜ r ≡ differs tag vr ⌝ }
-{
-    let named = named_vr(tag);
-    if named == 0 {
-        return false;
-    }
-    if named == vr {
-        return false;
-    }
-    if tag != 0x7FE0_0010 {
-        return true;
-    }
-    if vr == OB as usize {
-        return false;
-    }
-    true
 }

@@ -54,7 +54,7 @@ fn made_filled(n: Numbers, serial: u32) -> [u8; 64]
     let mut filled = [0; 64];
     let root = n.root;
     let used = n.used as usize;
-    uids::put_made(&mut filled, 0, &root[0..used], serial);
+    making::put_made(&mut filled, 0, &root[0..used], serial);
     filled
 }
 

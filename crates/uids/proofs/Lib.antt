@@ -5,4 +5,3 @@ pub mod Padding
 mod Components
 mod Examples
 mod Turns
-mod Written

@@ -17,7 +17,7 @@ use Rattle.elements.proofs.list.Reads as list
 use Rattle.elements.proofs.list.Kinds as list-kinds
 use Rattle.elements.proofs.+element+item+list.Lts-list as list-lts
 use Rattle.headers.proofs.closing.Reads as closing-reads
-use Rattle.headers.proofs.element_head.Reads as element-head-reads
+use Rattle.syntaxes.proofs.element_head.Reads as element-head-reads
 use Rattle.headers.proofs.item_head.Reads as item-head-reads
 use Rattle.headers.proofs.tag_at.Reads as tag-at-reads
 use Rattle.elements.proofs.+element+item+list.{statement}

@@ -3,13 +3,13 @@ use Prim.Native.Nat.{ℕ, _<_}
 use native.Mathlib.Omega.{arith}
 use borrow.Fn.Kinds.{In}
 use borrow.Fn.PlainCycle.{Measures, is, falls, and}
-use Rattle.uids.proofs.Written.{one-length, more-length, one-written, more-written}
-use Rattle.uids.proofs.put_decimal.Reads as put-decimal
-use Rattle.uids.proofs.put_decimal.Kinds as put-decimal-kinds
-use Rattle.uids.proofs.+put_decimal.Lts-put_decimal as put-decimal-lts
-use Rattle.uids.proofs.digit.Reads as digit-reads
-use Rattle.uids.proofs.+put_decimal.{statement}
-use Rattle.uids.proofs.+put_decimal.Tie.{close}
+use Rattle.making.proofs.Written.{one-length, more-length, one-written, more-written}
+use Rattle.making.proofs.put_decimal.Reads as put-decimal
+use Rattle.making.proofs.put_decimal.Kinds as put-decimal-kinds
+use Rattle.making.proofs.+put_decimal.Lts-put_decimal as put-decimal-lts
+use Rattle.making.proofs.digit.Reads as digit-reads
+use Rattle.making.proofs.+put_decimal.{statement}
+use Rattle.making.proofs.+put_decimal.Tie.{close}
 
 -- the number itself falls
 abbrev μ-put-decimal : Measures 1 put-decimal-kinds.ps ℕ

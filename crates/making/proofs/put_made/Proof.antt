@@ -1,12 +1,12 @@
 use mathlib.Core.Path.{_∙_}
 use native.Mathlib.Omega.{arith}
 use lib.ListN.{length-set}
 use Rattle.uids.proofs.Decimal.{decimal-length}
 use Rattle.uids.proofs.Made.{made-length}
-use Rattle.uids.proofs.Written.{made-written}
+use Rattle.making.proofs.Written.{made-written}
 use borrow.Author.Needs.{needs}
-use Rattle.uids.proofs.put_made.Statement.{statement}
-use Rattle.uids.proofs.put_made.Tie as tie
+use Rattle.making.proofs.put_made.Statement.{statement}
+use Rattle.making.proofs.put_made.Tie as tie
 
 put-decimal-requires : tie.Need-put-decimal-requires
 put-decimal-requires c κs = let start = c .before .before .before .before .before .before .before in

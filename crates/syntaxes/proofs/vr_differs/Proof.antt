@@ -1,8 +1,8 @@
 use borrow.Author.Tests.{eq-eqb, ne-eqb}
 use Rattle.tags.specs.Table.{differs}
 use borrow.Author.Needs.{needs}
-use Rattle.tags.proofs.vr_differs.Statement.{statement}
-use Rattle.tags.proofs.vr_differs.Tie as tie
+use Rattle.syntaxes.proofs.vr_differs.Statement.{statement}
+use Rattle.syntaxes.proofs.vr_differs.Tie as tie
 
 returns : tie.Need-returns
 unfolding differs

@@ -1,8 +1,8 @@
 use borrow.Author.Tests.{eq-eqb, ne-eqb}
 use Rattle.tags.specs.Table.{implicitVr}
 use borrow.Author.Needs.{needs}
-use Rattle.tags.proofs.implicit_vr.Statement.{statement}
-use Rattle.tags.proofs.implicit_vr.Tie as tie
+use Rattle.syntaxes.proofs.implicit_vr.Statement.{statement}
+use Rattle.syntaxes.proofs.implicit_vr.Tie as tie
 
 returns : tie.Need-returns
 unfolding implicitVr

@@ -1,0 +1,2 @@
+-- What the writers of UIDs write.
+mod Written
