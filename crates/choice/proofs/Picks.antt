@@ -3,6 +3,7 @@
 use mathlib.Core.Path.{_≡_, refl, sym, _∙_, subst}
 use mathlib.Core.List.{List, [], _∷_}
 use lib.Dec.{T}
+use mathlib.Core.Bool as bool
 use mathlib.Core.Bool.{Bool, true, false}
 use Prim.Native.Nat.{ℕ}
 use Rattle.choice.specs.Pick.{pick, both, either, not}
@@ -32,6 +33,11 @@ first-kept refused ((false ⇒ n) ∷ rules) x k = first-kept refused rules x (k
 pub clash : {b : Bool} → b ≡ false → b ≡ true → ⊥
 clash e h = subst T (sym h ∙ e) tt
 
+-- the code's `!`
+pub nots : (b : Bool) → bool.not b ≡ not b
+nots true = refl
+nots false = refl
+
 pub not-true : (b : Bool) → not b ≡ true → b ≡ false
 not-true true e = absurd (subst T (sym e) tt)
 not-true false e = refl
@@ -47,6 +53,19 @@ both-true false b e = absurd (subst T (sym e) tt)
 pub both-holds : (a b : Bool) → a ≡ true → b ≡ true → both a b ≡ true
 both-holds true b e f = f
 both-holds false b e f = e
+
+-- the second of two is known
+pub both-fails : (a : Bool) → both a false ≡ false
+both-fails true = refl
+both-fails false = refl
+
+pub both-only : (a : Bool) → both a true ≡ a
+both-only true = refl
+both-only false = refl
+
+pub both-assoc : (a b c : Bool) → both a (both b c) ≡ both (both a b) c
+both-assoc true b c = refl
+both-assoc false b c = refl
 
 -- both fail, and one of them holds
 pub both-second : (a b : Bool) → both a b ≡ false → a ≡ true → b ≡ false

@@ -10,7 +10,7 @@ use lib.ListN.{length, getD, set, replicate, length-set, getD-replicate}
 use lib.Seq.{getD-set-same, getD-set-other}
 use borrow.Author.Tests.{ltb-true, ltb-false, eqb-true, eqb-false, lt-ltb, le-ltb}
 use Rattle.choice.specs.Pick.{both}
-use Rattle.choice.proofs.Picks.{pick-cases}
+use Rattle.choice.proofs.Picks.{pick-cases, both-fails}
 use Rattle.headers.specs.declared.Part.{Part}
 use Rattle.headers.specs.declared.Close.the-variants.{Here, Not}
 use Rattle.headers.specs.Header.{tagAt, headAt, closeAt}
@@ -38,10 +38,6 @@ pub whole-start : (c : List ℕ) → wholeCommand c ≡ wholeFrom c 0 0
 unfolding wholeCommand wholeFrom groupZero dataSet listAt
 whole-start c = refl
 
-both-false : (a : Bool) → both a false ≡ false
-both-false true = refl
-both-false false = refl
-
 module _ (c : List ℕ) (at floor : ℕ) (h : at ≤ length c) where
   pub whole-done : {q : ℕ} → closeAt c itemEnd (whole c) at ≡ Here q → wholeFrom c at floor ≡ true
   unfolding wholeFrom every
@@ -53,7 +49,7 @@ module _ (c : List ℕ) (at floor : ℕ) (h : at ≤ length c) where
 
   pub whole-other : {q : ℕ} → closeAt c itemEnd (whole c) at ≡ Not → elementAt c false 4 (length c) at floor ≡ Past q → 65536 ≤ tagAt c at → wholeFrom c at floor ≡ false
   unfolding wholeFrom every
-  whole-other k e t = rw (elements-more c false 4 (whole c) at h floor k e, le-ltb (tagAt c at) 65536 t) (both-false (isRead (listFrom (elementAt c false 4) c (whole c) (mark at floor))))
+  whole-other k e t = rw (elements-more c false 4 (whole c) at h floor k e, le-ltb (tagAt c at) 65536 t) (both-fails (isRead (listFrom (elementAt c false 4) c (whole c) (mark at floor))))
 
   pub whole-more : {q : ℕ} → closeAt c itemEnd (whole c) at ≡ Not → elementAt c false 4 (length c) at floor ≡ Past q → tagAt c at < 65536 → wholeFrom c at floor ≡ wholeFrom c q (tagAt c at + 1)
   unfolding wholeFrom every

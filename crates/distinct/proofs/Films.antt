@@ -4,6 +4,7 @@ use mathlib.Core.Path.{_≡_, refl}
 use mathlib.Core.Bool.{Bool, true, false}
 use mathlib.Core.List.{List, [], _∷_}
 use Rattle.choice.specs.Pick.{both, not}
+use Rattle.choice.proofs.Picks.{both-assoc}
 use Rattle.rules.specs.declared.Name.{Name}
 use Rattle.rules.specs.declared.Session.{Session}
 use Rattle.rules.specs.declared.Film.{Film}
@@ -11,10 +12,6 @@ use Rattle.rules.specs.Lists.{every, apart}
 use Rattle.rules.specs.Sound.{Serials, overlap, ownSerial, serialsOf, sentText, sameText, uidsApart}
 use Rattle.distinct.specs.Apart.{boxSerials, freeOfFilm, serialsFree, filmApart, serialsApart, filmText, textFree, textsApart}
 use Rattle.distinct.proofs.Steps.{Stepwise}
-
-both-assoc : (a b c : Bool) → both a (both b c) ≡ both (both a b) c
-both-assoc true b c = refl
-both-assoc false b c = refl
 
 regroup : (a b c d : Bool) → both (both a b) (both c d) ≡ both (both a (both b c)) d
 regroup true b c d = both-assoc b c d

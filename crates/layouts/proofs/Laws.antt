@@ -11,7 +11,7 @@ use lib.ListN.{length, getD, take, drop, replicate, set, length-append, length-t
 use lib.Seq.{append-snoc, set-at, take-all, take-suc, drop-cons}
 use borrow.Author.Tests.{eq-eqb, ne-eqb, le-leb, lt-leb, leb-true, eqb-true}
 use Rattle.choice.specs.Pick.{pick, both, either}
-use Rattle.choice.proofs.Picks.{pick-cases, both-true}
+use Rattle.choice.proofs.Picks.{both-true, both-fails}
 use Rattle.octets.specs.Octets.{same}
 use Rattle.octets.proofs.Same.{same-equal}
 use Rattle.rules.specs.Text.{chars}
@@ -26,8 +26,7 @@ module _ (t : List ℕ) where
   pub standard-short : (length t ≡ 12 → ⊥) → false ≡ standard t
   unfolding standard
   standard-short n =
-      rw (ne-eqb (length t) 12 n)
-      (pick-cases (λ b. false ≡ b) (same (take 9 t) (chars "STANDARD\\")) false false (λ _. refl) (λ _. refl))
+      rw (ne-eqb (length t) 12 n) (sym (both-fails (same (take 9 t) (chars "STANDARD\\"))))
 
   module _ (l : length t ≡ 12) where
     pub standard-other : same (take 9 t) (chars "STANDARD\\") ≡ false → false ≡ standard t
@@ -98,22 +97,19 @@ module _ (s : List ℕ) (i : ℕ) where
 
 -- ROW and COL.
 
-no-list : (a b : Bool) → both a (both b false) ≡ false
-no-list true true = refl
-no-list true false = refl
-no-list false true = refl
-no-list false false = refl
+abbrev begins : List ℕ → Bool
+begins t = either (same (take 4 t) (chars "ROW\\")) (same (take 4 t) (chars "COL\\"))
 
 module _ (t : List ℕ) where
   pub uneven-short : length t < 4 → false ≡ uneven t
   unfolding uneven listed
   uneven-short h =
       let l : length t ≤ 4 = omega arith in
-      rw (drop-of-length-le t l) (sym (no-list (either (same (take 4 t) (chars "ROW\\")) (same (take 4 t) (chars "COL\\"))) (leb (length t) 15)))
+      rw (drop-of-length-le t l, both-fails (leb (length t) 15)) (sym (both-fails (begins t)))
 
   pub uneven-long : 15 < length t → false ≡ uneven t
   unfolding uneven
-  uneven-long h = rw (lt-leb (length t) 15 h) (pick-cases (λ b. false ≡ b) (either (same (take 4 t) (chars "ROW\\")) (same (take 4 t) (chars "COL\\"))) false false (λ _. refl) (λ _. refl))
+  uneven-long h = rw (lt-leb (length t) 15 h) (sym (both-fails (begins t)))
 
   module _ (l : length t ≤ 15) where
     pub uneven-row : same (take 4 t) (chars "ROW\\") ≡ true → listed (drop 4 t) ≡ uneven t
@@ -133,7 +129,7 @@ module _ (t : List ℕ) where
 pub uneven-has : (t : List ℕ) → uneven t ≡ true → (listed (drop 4 t) ≡ true) × (4 < length t) × (length t ≤ 15)
 unfolding uneven
 uneven-has t e =
-    let a = both-true (either (same (take 4 t) (chars "ROW\\")) (same (take 4 t) (chars "COL\\"))) _ e .1 in
+    let a = both-true (begins t) _ e .1 in
     let b = both-true (leb (length t) 15) (listed (drop 4 t)) a in
     (b .1, omega (arith, listed-numbers (drop 4 t) (b .1) .0, length-drop 4 t), leb-true (length t) 15 (b .0))
 

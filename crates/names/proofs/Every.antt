@@ -1,7 +1,7 @@
 -- A test of every element of a list, from its first to its last; and of the first few.
 -- Assumes nothing.
 use Prim.Native.Nat.{ℕ, _+_, _<_, _≤_}
-use mathlib.Core.Path.{_≡_, refl, ap, _∙_}
+use mathlib.Core.Path.{_≡_, ap, _∙_}
 use mathlib.Core.Bool.{Bool, true, false}
 use mathlib.Core.List.{List, [], _∷_}
 use native.Mathlib.Numerals.{add-one}
@@ -9,6 +9,7 @@ use native.Mathlib.Omega.{arith}
 use lib.ListN.{length, getD, take, drop, length-take, drop-of-length-le}
 use lib.Seq.{drop-cons, getD-take}
 use Rattle.choice.specs.Pick.{both}
+use Rattle.choice.proofs.Picks.{both-fails, both-only}
 use Rattle.rules.specs.Lists.{every}
 use Rattle.rules.specs.Sound.{all}
 
@@ -46,25 +47,16 @@ few-end test xs k i h = every-end test (take k xs) i (rw (length-take) (omega ar
 pub few-all : {A : Type 0} (test : A → Bool) (xs : List A) (k i : ℕ) → length xs ≤ i → every test (drop i (take k xs)) ≡ true
 few-all test xs k i h = every-end test (take k xs) i (rw (length-take) (omega arith))
 
--- the last of some tests
-pub both-true : (b : Bool) → both b true ≡ b
-both-true true = refl
-both-true false = refl
-
-pub both-false : (b : Bool) → both b false ≡ false
-both-false true = refl
-both-false false = refl
-
 -- the same where a flag says whether all passed so far
 module _ {A : Type 0} (test : A → Bool) (xs : List A) (d : A) (i : ℕ) (flag : Bool) where
   pub so-far-on : i < length xs → test (getD xs i d) ≡ true → both flag (every test (drop i xs)) ≡ both flag (every test (drop (i + 1) xs))
   so-far-on h e = rw (every-on test xs d i h e)
 
   pub so-far-not : i < length xs → test (getD xs i d) ≡ false → both flag (every test (drop i xs)) ≡ false
-  so-far-not h e = rw (every-not test xs d i h e) (both-false flag)
+  so-far-not h e = rw (every-not test xs d i h e) (both-fails flag)
 
 pub so-far-end : {A : Type 0} (test : A → Bool) (xs : List A) (i : ℕ) (flag : Bool) → length xs ≤ i → both flag (every test (drop i xs)) ≡ flag
-so-far-end test xs i flag h = rw (every-end test xs i h) (both-true flag)
+so-far-end test xs i flag h = rw (every-end test xs i h) (both-only flag)
 
 -- of some tests the first fails, or holds, or is the only one
 pub all-stop : (b : Bool) (bs : List Bool) → b ≡ false → all (b ∷ bs) ≡ false
@@ -77,9 +69,9 @@ all-next b bs e = rw e
 
 pub all-one : (b : Bool) → all (b ∷ []) ≡ b
 unfolding every
-all-one b = both-true b
+all-one b = both-only b
 
 -- one behind the first fails
 pub all-pass : (b : Bool) (bs : List Bool) → all bs ≡ false → all (b ∷ bs) ≡ false
 unfolding every
-all-pass b bs e = rw e (both-false b)
+all-pass b bs e = rw e (both-fails b)

@@ -9,7 +9,7 @@ use lib.Dec.{eqb, leb, ltb}
 use lib.ListN.{length, take}
 use borrow.Author.Tests.{ltb-true, lt-ltb, le-ltb, leb-true, eqb-true, eqb-false, ne-eqb}
 use Rattle.choice.specs.Pick.{pick, both, either, not}
-use Rattle.choice.proofs.Picks.{Kept, pick-cases, both-true, both-second, either-false, not-false, clash}
+use Rattle.choice.proofs.Picks.{Kept, pick-cases, both-true, both-fails, both-second, either-false, not-false, clash}
 use Rattle.octets.specs.Octets.{same}
 use Rattle.octets.proofs.Same.{same-equal, same-self}
 use Rattle.uids.specs.Uids.{components, isUid, beginsWith, made}
@@ -79,11 +79,7 @@ name-from-sound k sent m s r h g =
 
 -- what is used up is apart from what comes later
 pub apart-later : (a b : Serials) (n : ℕ) → a .from + a .count ≤ n → n ≤ b .from → pick (overlap a b) false true ≡ true
-apart-later a b n h g = second (ltb (a .from) (b .from + b .count)) (ltb (b .from) (a .from + a .count)) (le-ltb (b .from) (a .from + a .count) (omega arith))
-  where
-    second : (x y : Bool) → y ≡ false → pick (both x y) false true ≡ true
-    second true y e = rw e
-    second false y e = refl
+apart-later a b n h g = rw (le-ltb (b .from) (a .from + a .count) (omega arith), both-fails (ltb (a .from) (b .from + b .count)))
 
 pub apart-none : (a b : Serials) → b .from + b .count ≡ 0 → pick (overlap a b) false true ≡ true
 apart-none a b e = rw (le-ltb (a .from) (b .from + b .count) (omega arith))
@@ -105,15 +101,11 @@ blank-below n name e =
 
 -- Texts differ.
 
-both-false : (x y : Bool) → y ≡ false → both x y ≡ false
-both-false true y e = e
-both-false false y e = refl
-
 -- an empty text is like none
 pub text-none : (a : List ℕ) → sameText a [] ≡ false
 unfolding same
 text-none [] = refl
-text-none (x ∷ a) = both-false (not (eqb (length (x ∷ a)) 0)) (same (x ∷ a) []) refl
+text-none (x ∷ a) = both-fails (not (eqb (length (x ∷ a)) 0))
 
 same-other : (a b : List ℕ) → same a b ≡ false → same b a ≡ false
 same-other a b e = other (same b a) refl
@@ -128,5 +120,5 @@ unfolding nameSound uidOf
 text-free n name sent e f = free (eqb (name .made .0) 0) e f
   where
     free : (t : Bool) → pick t (sentSound n name) (madeSound n name) ≡ true → same sent (pick t (take (name .used) (name .text)) (made (rootOf n) (name .made .0))) ≡ false → sameText (sentText name) sent ≡ false
-    free true e f = both-false (not (eqb (length (sentText name)) 0)) (same (sentText name) sent) (same-other sent (sentText name) f)
+    free true e f = rw (same-other sent (sentText name) f) (both-fails (not (eqb (length (sentText name)) 0)))
     free false e f = rw (eqb-true (name .used) 0 (all-true _ e .1 .0))

@@ -3,7 +3,8 @@ use lib.Dec.{eqb}
 use Rattle.choice.specs.Pick.{not}
 use Rattle.rules.specs.Values.{blank, countIn}
 use Rattle.rules.specs.Attributes.{listingOf, look}
-use Rattle.attributes.proofs.Laws.{nots, optional-told}
+use Rattle.choice.proofs.Picks.{nots}
+use Rattle.attributes.proofs.Laws.{optional-told}
 use borrow.Author.Needs.{needs}
 use Rattle.attributes.proofs.copies_severity.Statement.{statement}
 use Rattle.attributes.proofs.copies_severity.Tie as tie

@@ -5,7 +5,8 @@ use Rattle.choice.specs.Pick.{not}
 use Rattle.rules.specs.declared.Layout.{Layout}
 use Rattle.rules.specs.Values.{blank, countsIn}
 use Rattle.rules.specs.Attributes.{listingOf, look}
-use Rattle.attributes.proofs.Laws.{nots, mandatory-told}
+use Rattle.choice.proofs.Picks.{nots}
+use Rattle.attributes.proofs.Laws.{mandatory-told}
 use borrow.Author.Needs.{needs}
 use Rattle.attributes.proofs.format_severity.Statement.{statement}
 use Rattle.attributes.proofs.format_severity.Tie as tie

@@ -1,7 +1,7 @@
 use borrow.Author.Tests.{le-leb, lt-leb, not-true, not-false}
 use Rattle.rules.specs.Lists.{every}
 use Rattle.rules.specs.Records.{rootOf}
-use Rattle.names.proofs.Every.{both-true}
+use Rattle.choice.proofs.Picks.{both-only}
 use borrow.Author.Needs.{needs}
 use Rattle.names.proofs.sent_sound.Statement.{statement}
 use Rattle.names.proofs.sent_sound.Tie as tie
@@ -16,15 +16,15 @@ returns-2 c = simp (le-leb _ _ (c .before .if1 .left), lt-leb _ _ (c .if2 .taken
 
 returns-3 : tie.Need-returns-3
 unfolding every rootOf
-returns-3 c = simp (le-leb _ _ (c .before .before .before .before .before .if1 .left), le-leb _ _ (c .before .before .before .before .if2 .left), ← (c .before .begins-uid .ensures), not-true (c .before .begins-uid .result) (c .if3 .taken), both-true)
+returns-3 c = simp (le-leb _ _ (c .before .before .before .before .before .if1 .left), le-leb _ _ (c .before .before .before .before .if2 .left), ← (c .before .begins-uid .ensures), not-true (c .before .begins-uid .result) (c .if3 .taken), both-only)
 
 returns-4 : tie.Need-returns-4
 unfolding every rootOf
-returns-4 c = simp (le-leb _ _ (c .before .before .before .before .before .before .before .before .before .before .before .if1 .left), le-leb _ _ (c .before .before .before .before .before .before .before .before .before .before .if2 .left), ← (c .before .before .before .before .before .before .before .begins-uid .ensures), not-false (c .before .before .before .before .before .before .before .begins-uid .result) (c .before .before .before .before .before .before .if3 .left), ← (c .before .rooted .ensures), c .if4 .taken, both-true)
+returns-4 c = simp (le-leb _ _ (c .before .before .before .before .before .before .before .before .before .before .before .if1 .left), le-leb _ _ (c .before .before .before .before .before .before .before .before .before .before .if2 .left), ← (c .before .before .before .before .before .before .before .begins-uid .ensures), not-false (c .before .before .before .before .before .before .before .begins-uid .result) (c .before .before .before .before .before .before .if3 .left), ← (c .before .rooted .ensures), c .if4 .taken, both-only)
 
 returns-5 : tie.Need-returns-5
 unfolding every rootOf
-returns-5 c = simp (le-leb _ _ (c .before .before .before .before .before .before .before .before .before .before .before .before .before .if1 .left), le-leb _ _ (c .before .before .before .before .before .before .before .before .before .before .before .before .if2 .left), ← (c .before .before .before .before .before .before .before .before .before .begins-uid .ensures), not-false (c .before .before .before .before .before .before .before .before .before .begins-uid .result) (c .before .before .before .before .before .before .before .before .if3 .left), ← (c .before .before .before .rooted .ensures), c .before .before .if4 .left, ← (c .zeros-from .ensures), both-true)
+returns-5 c = simp (le-leb _ _ (c .before .before .before .before .before .before .before .before .before .before .before .before .before .if1 .left), le-leb _ _ (c .before .before .before .before .before .before .before .before .before .before .before .before .if2 .left), ← (c .before .before .before .before .before .before .before .before .before .begins-uid .ensures), not-false (c .before .before .before .before .before .before .before .before .before .begins-uid .result) (c .before .before .before .before .before .before .before .before .if3 .left), ← (c .before .before .before .rooted .ensures), c .before .before .if4 .left, ← (c .zeros-from .ensures), both-only)
 
 pub sent-sound-spec : {M : Type 1} → statement M
 sent-sound-spec =
