@@ -77,9 +77,6 @@ sent-at c sent = at (eqb (size sent) 0) refl
 pub serials-known : (k : Core) → coreSound k ≡ true → (1 ≤ k .numbers .serial) × (k .numbers .serial ≤ noneLeft)
 serials-known k e = between-true 1 noneLeft (k .numbers .serial) (numbers-facts (k .numbers) (core-facts k e .numbers) .serial)
 
-pub root-short : (k : Core) → coreSound k ≡ true → k .numbers .used ≤ 40
-root-short k e = between-true 1 40 (k .numbers .used) (numbers-facts (k .numbers) (core-facts k e .numbers) .used) .1
-
 -- where no UID was sent, the next serial is left
 pub serial-left : (n : Numbers) (sent : List ℕ) → n .serial + ownSerials sent ≤ noneLeft → length sent ≡ 0 → n .serial < noneLeft
 serial-left n sent h e = let o : ownSerials sent ≡ 1 = rw (eq-eqb (length sent) 0 e) in omega arith

@@ -7,8 +7,7 @@ use mathlib.Core.List.{List, [], _∷_, map}
 use mathlib.Core.Option.{Option}
 use native.Mathlib.Omega.{arith}
 use lib.Dec.{eqb, ltb}
-use lib.ListN.{length, take, drop, length-append, length-take}
-use lib.Seq.{take-append-seam}
+use lib.ListN.{length, take, length-append, length-take}
 use borrow.Author.Tests.{eq-eqb, ne-eqb, lt-ltb}
 use Rattle.choice.specs.Pick.{not}
 use Rattle.octets.specs.Octets.{octets, laid}
@@ -27,7 +26,6 @@ use Rattle.rules.specs.Records.{rootOf, uidOf, explicitVR}
 use Rattle.rules.specs.Commands.{uidAt}
 use Rattle.rules.specs.Responses.{noNote, reply, responseTree, filmTree}
 use Rattle.rules.specs.Checks.{classPart, fieldOf, actionOf, says}
-use Rattle.rules.specs.Sound.{coreSound}
 use Rattle.rules.specs.Outcomes.{reportBytes}
 use Rattle.responses.specs.Parts.{given, actionBy, saysBy, dataShown, reportBy}
 use Rattle.responses.proofs.Response.{data-shown}
@@ -37,12 +35,7 @@ use Rattle.verdicts.specs.declared.Verdict.{Verdict}
 use Rattle.verdicts.specs.Verdicts.{instanceOf, noteOf, dataSetOf, replyOf}
 use Rattle.verdicts.specs.Ready.{UidIn, UidsIn}
 use Rattle.verdicts.proofs.Laws.{uid-some}
-use Rattle.promises.proofs.Facts.{between-true, core-facts, numbers-facts}
 use Rattle.feeding.specs.Feeding.{isAction, kindOf, commandBytes, reportOf, unknownReply}
-
--- what was laid in front stands there
-pub front-laid : (s out bytes : List ℕ) (n : ℕ) → out ≡ laid s 0 bytes → n ≡ length bytes → take n out ≡ bytes
-front-laid s out bytes n e h = rw (e, h) (take-append-seam bytes (drop (0 + length bytes) s))
 
 pub front-short : (s front : List ℕ) (n most : ℕ) → front ≡ take n s → n ≤ most → length front ≤ most
 front-short s front n most e h = rw e (omega (arith, length-take n s))
@@ -53,9 +46,6 @@ front-fits s front n room e h = rw e (omega (arith, h, length-take n s))
 -- a root has room for a dot and a serial behind it
 pub root-fits : (s root : List ℕ) (n room : ℕ) → root ≡ take n s → n ≤ 40 → 64 ≤ room → 0 + length root + 11 ≤ room
 root-fits s root n room e h g = omega (arith, g, front-short s root n 40 e h)
-
-pub root-short : (k : Core) → coreSound k ≡ true → k .numbers .used ≤ 40
-root-short k e = between-true 1 40 (k .numbers .used) (numbers-facts (k .numbers) (core-facts k e .numbers) .used) .1
 
 -- The UID of a name.
 

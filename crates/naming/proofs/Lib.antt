@@ -1,2 +1,2 @@
 -- What the functions rest on.
-mod Parts
+pub mod Parts

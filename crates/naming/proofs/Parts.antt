@@ -12,7 +12,8 @@ pub front : (s : List ℕ) (n : ℕ) → take (n - 0) (drop 0 s) ≡ take n s
 front s n = let e : n - 0 ≡ n = omega arith in ap (λ m. take m s) e
 
 -- what was laid in front stands there
+pub laid-front : (s out bytes : List ℕ) (n : ℕ) → out ≡ laid s 0 bytes → n ≡ length bytes → take n out ≡ bytes
+laid-front s out bytes n e h = rw (e, h) (take-append-seam bytes (drop (0 + length bytes) s))
+
 pub front-laid : (s out bytes : List ℕ) (n : ℕ) → out ≡ laid s 0 bytes → n ≡ 0 + length bytes → take (n - 0) (drop 0 out) ≡ bytes
-front-laid s out bytes n e h =
-    let g : n ≡ length bytes = omega arith in
-    front out n ∙ ap (take n) e ∙ ap (λ m. take m (laid s 0 bytes)) g ∙ take-append-seam bytes (drop (0 + length bytes) s)
+front-laid s out bytes n e h = front out n ∙ laid-front s out bytes n e (omega arith)

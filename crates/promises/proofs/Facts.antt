@@ -83,6 +83,10 @@ pub numbers-sound : (n : Numbers) → NumbersFacts n → numbersSound n ≡ true
 unfolding numbersSound
 numbers-sound n f = all-holds _ (f .used, (f .root, (f .behind, (f .serial, (f .picture, tt)))))
 
+-- a root has room for a dot and a serial behind it
+pub root-short : (k : Core) → coreSound k ≡ true → k .numbers .used ≤ 40
+root-short k e = between-true 1 40 (k .numbers .used) (numbers-facts (k .numbers) (core-facts k e .numbers) .used) .1
+
 -- The films.
 
 pub record ShelfFacts (n : Numbers) (s : Session) (shelf : Shelf) : Type 0 where

@@ -7,7 +7,8 @@ use Rattle.rules.specs.Records.{boxCount}
 use Rattle.rules.specs.Attributes.{listingOf}
 use Rattle.rules.specs.Checks.{films, newFilmRules, createPlan}
 use Rattle.verdicts.proofs.Plans.{broken-decides}
-use Rattle.creating.proofs.Laws.{serials-known, root-short, film-kept, room-left, new-few, film-decides}
+use Rattle.promises.proofs.Facts.{root-short}
+use Rattle.creating.proofs.Laws.{serials-known, film-kept, room-left, new-few, film-decides}
 use borrow.Author.Needs.{needs}
 use Rattle.creating.proofs.film_decided.Statement.{statement}
 use Rattle.creating.proofs.film_decided.Tie as tie

@@ -2,7 +2,9 @@ use mathlib.Core.Path.{ap, _∙_}
 use denote.Ref.{now}
 use Rattle.rules.specs.Records.{uidOf}
 use Rattle.responses.specs.Parts.{given}
-use Rattle.feeding.proofs.Response.{front-laid, front-short, root-short, responded}
+use Rattle.naming.proofs.Parts.{laid-front}
+use Rattle.promises.proofs.Facts.{root-short}
+use Rattle.feeding.proofs.Response.{front-short, responded}
 use borrow.Author.Needs.{needs}
 use Rattle.feeding.proofs.respond.Statement.{statement}
 use Rattle.feeding.proofs.respond.Tie as tie
@@ -22,7 +24,7 @@ returns : tie.Need-returns
 returns c = let a = c .before .before .before .before .before .before .before .before .before .before .before .before .before .before .before .before .before .before .before .before .before .before .before .before .before .args in
     let uid = c .before .before .before .before .before .before .before .before .before .before .before .before .put-uid .ensures in
     let front = c .before .before .before .before .before .before .before .before .front in
-    let told = front .ensures ∙ front-laid _ _ (uidOf (a .k .numbers) (a .v .instance)) _ (uid .0) (uid .1) in
+    let told = front .ensures ∙ laid-front _ _ (uidOf (a .k .numbers) (a .v .instance)) _ (uid .0) (uid .1) in
     responded (a .k) (now (a .c)) (a .request) (a .v) _ _ (now (front .result)) (now (a .command)) _ (now (a .data-set)) _ (now (a .report)) _ (ap given told ∙ uid .3) (c .before .before .before .before .before .before .before .before .before .before .before .before .before .before .before .before .before .before .put-data .ensures) (c .before .before .before .before .before .before .before .put-command .ensures) (c .before .before .put-note .ensures)
 
 pub respond-spec : {M : Type 1} → statement M
