@@ -3,7 +3,7 @@
 use Prim.Native.Nat.{ℕ, _+_, _<_, _≤_}
 use mathlib.Core.Path.{_≡_, ap, _∙_}
 use mathlib.Core.Bool.{Bool, true, false}
-use mathlib.Core.List.{List, [], _∷_}
+use mathlib.Core.List.{List}
 use native.Mathlib.Numerals.{add-one}
 use native.Mathlib.Omega.{arith}
 use lib.ListN.{length, getD, take, drop, length-take, drop-of-length-le}
@@ -11,7 +11,6 @@ use lib.Seq.{drop-cons, getD-take}
 use Rattle.choice.specs.Pick.{both}
 use Rattle.choice.proofs.Picks.{both-fails, both-only}
 use Rattle.rules.specs.Lists.{every}
-use Rattle.rules.specs.Sound.{all}
 
 module _ {A : Type 0} (test : A → Bool) (xs : List A) (d : A) (i : ℕ) where
   turn : i < length xs → every test (drop i xs) ≡ both (test (getD xs i d)) (every test (drop (i + 1) xs))
@@ -57,21 +56,3 @@ module _ {A : Type 0} (test : A → Bool) (xs : List A) (d : A) (i : ℕ) (flag 
 
 pub so-far-end : {A : Type 0} (test : A → Bool) (xs : List A) (i : ℕ) (flag : Bool) → length xs ≤ i → both flag (every test (drop i xs)) ≡ flag
 so-far-end test xs i flag h = rw (every-end test xs i h) (both-only flag)
-
--- of some tests the first fails, or holds, or is the only one
-pub all-stop : (b : Bool) (bs : List Bool) → b ≡ false → all (b ∷ bs) ≡ false
-unfolding every
-all-stop b bs e = rw e
-
-pub all-next : (b : Bool) (bs : List Bool) → b ≡ true → all (b ∷ bs) ≡ all bs
-unfolding every
-all-next b bs e = rw e
-
-pub all-one : (b : Bool) → all (b ∷ []) ≡ b
-unfolding every
-all-one b = both-only b
-
--- one behind the first fails
-pub all-pass : (b : Bool) (bs : List Bool) → all bs ≡ false → all (b ∷ bs) ≡ false
-unfolding every
-all-pass b bs e = rw e (both-fails b)
