@@ -316,7 +316,6 @@ fn is_session_class(u: &[u8]) -> bool
 
 // "naming the live session"
 fn is_session(n: Numbers, s: Session, u: &[u8]) -> bool
-    requires { ⌜ n .used ≤ 40 ⌝ }
     ensures { λ r. ⌜ r ≡ both (isUid (now (u .entry))) (both (isLive s) (same (now (u .entry)) (uidOf n (s .name)))) ⌝ }
 {
     if !uids::is_uid(u) {
@@ -339,7 +338,7 @@ fn class_severity(d: &[u8], explicit: bool, inside: Inside) -> u8
 }
 
 fn instance_severity(n: Numbers, s: Session, d: &[u8], explicit: bool, inside: Inside) -> u8
-    requires { ⌜ (n .used ≤ 40) × (inside .from ≤ inside .stop) × (inside .stop ≤ length (now d)) ⌝ }
+    requires { ⌜ (inside .from ≤ inside .stop) × (inside .stop ≤ length (now d)) ⌝ }
     ensures { λ r. ⌜ r ≡ severity (uid (λ u. both (isLive s) (same u (uidOf n (s .name)))) (onlyItem (listingOf (now (d .entry)) explicit) inside) 0x0008_1155) ⌝ }
 {
     let at = standings::look(d, explicit, 3, inside, REFERENCED_INSTANCE);
@@ -349,7 +348,7 @@ fn instance_severity(n: Numbers, s: Session, d: &[u8], explicit: bool, inside: I
 
 // The only item of the reference.
 fn item_severity(k: Core, d: &[u8], explicit: bool, inside: Inside) -> u8
-    requires { ⌜ (k .numbers .used ≤ 40) × (inside .from ≤ inside .stop) × (inside .stop ≤ length (now d)) ⌝ }
+    requires { ⌜ (inside .from ≤ inside .stop) × (inside .stop ≤ length (now d)) ⌝ }
     ensures { λ r. ⌜ r ≡ worst (referenceStandings k (listingOf (now (d .entry)) explicit) (One inside)) ⌝ }
 {
     let numbers = k.numbers;
@@ -359,7 +358,7 @@ fn item_severity(k: Core, d: &[u8], explicit: bool, inside: Inside) -> u8
 }
 
 fn sequence_severity(k: Core, d: &[u8], explicit: bool, inside: Inside) -> u8
-    requires { ⌜ (k .numbers .used ≤ 40) × (inside .from ≤ inside .stop) × (inside .stop ≤ length (now d)) ⌝ }
+    requires { ⌜ (inside .from ≤ inside .stop) × (inside .stop ≤ length (now d)) ⌝ }
     ensures { λ r. ⌜ r ≡ worst (referenceStandings k (listingOf (now (d .entry)) explicit) (itemsAt (now (d .entry)) explicit 3 inside)) ⌝ }
 {
     match finding::items_in(d, explicit, 3, inside) {
@@ -370,7 +369,6 @@ fn sequence_severity(k: Core, d: &[u8], explicit: bool, inside: Inside) -> u8
 }
 
 fn reference_severity(k: Core, d: &[u8], explicit: bool) -> u8
-    requires { ⌜ k .numbers .used ≤ 40 ⌝ }
     ensures { λ r. ⌜ r ≡ worst (reference k (listingOf (now (d .entry)) explicit) (look (listingOf (now (d .entry)) explicit) 0x2010_0500)) ⌝ }
 {
     let whole = Inside {
@@ -387,7 +385,6 @@ fn reference_severity(k: Core, d: &[u8], explicit: bool) -> u8
 
 // Check 8 of a film on create.
 pub fn film_create_broken(k: Core, d: &[u8], explicit: bool) -> u16
-    requires { ⌜ k .numbers .used ≤ 40 ⌝ }
     ensures { λ r. ⌜ r ≡ firstBroken (attributeRules (filmCreateStandings k (listingOf (now (d .entry)) explicit))) ⌝ }
 {
     let mut worst = optional_film(d, explicit);

@@ -63,6 +63,10 @@ pub both-only : (a : Bool) → both a true ≡ a
 both-only true = refl
 both-only false = refl
 
+pub both-swap : (a b c : Bool) → both a (both b c) ≡ both b (both a c)
+both-swap true b c = refl
+both-swap false b c = sym (both-fails b)
+
 pub both-assoc : (a b c : Bool) → both a (both b c) ≡ both (both a b) c
 both-assoc true b c = refl
 both-assoc false b c = refl

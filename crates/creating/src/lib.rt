@@ -147,7 +147,7 @@ fn film_serials(d: &[u8], explicit: bool, sent: &[u8]) -> u64
 
 // Checks 8 and 9 of a film.
 fn new_film_broken(k: Core, d: &[u8], explicit: bool, sent: &[u8]) -> u16
-    requires { ⌜ (k .numbers .used ≤ 40) × (k .numbers .serial ≤ noneLeft) × (shelved (filmsOf (k .shelf)) ≡ k .shelf) ⌝ }
+    requires { ⌜ (k .numbers .serial ≤ noneLeft) × (shelved (filmsOf (k .shelf)) ≡ k .shelf) ⌝ }
     ensures { λ r. ⌜ r ≡ firstBroken (newFilmRules k (now (sent .entry)) (listingOf (now (d .entry)) explicit)) ⌝ }
 {
     let status = attributes::film_create_broken(k, d, explicit);

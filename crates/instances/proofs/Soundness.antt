@@ -1,4 +1,4 @@
--- What sound records say of numbers, films and their serials.
+-- What sound records say of films and their serials.
 -- Assumes nothing.
 use Prim.Native.Nat.{ℕ, zero, suc, _+_, _≤_, _<_}
 use mathlib.Core.Path.{_≡_}
@@ -35,11 +35,9 @@ every-at test [] i d e h = absurd (omega arith)
 every-at test (x ∷ xs) zero d e h = both-true (test x) (every test xs) e .0
 every-at test (x ∷ xs) (suc i) d e h = every-at test xs i d (both-true (test x) (every test xs) e .1) (omega arith)
 
-numbers-short : (n : Numbers) → numbersSound n ≡ true → (n .used ≤ 40) × (n .serial ≤ noneLeft)
+serial-left : (n : Numbers) → numbersSound n ≡ true → n .serial ≤ noneLeft
 unfolding numbersSound
-numbers-short n e =
-    let t = all-true _ e in
-    (leb-true (n .used) 40 (both-true (leb 1 (n .used)) (leb (n .used) 40) (t .0) .1), leb-true (n .serial) noneLeft (both-true (leb 1 (n .serial)) (leb (n .serial) noneLeft) (t .1 .1 .1 .0) .1))
+serial-left n e = let t = all-true _ e in leb-true (n .serial) noneLeft (both-true (leb 1 (n .serial)) (leb (n .serial) noneLeft) (t .1 .1 .1 .0) .1)
 
 film-fits : (n : Numbers) (f : Film) → n .serial ≤ noneLeft → filmSound n f ≡ true → SerialsFit f
 unfolding filmSound
@@ -57,9 +55,6 @@ module _ (k : Core) (e : coreSound k ≡ true) where
   unfolding coreSound
   core-parts = let t = all-true _ e in (t .0, t .1 .1 .1 .0)
 
-  pub root-short : k .numbers .used ≤ 40
-  root-short = numbers-short (k .numbers) (core-parts .0) .0
-
   pub films-few : k .shelf .count ≤ 8
   unfolding shelfSound
   films-few = let t = all-true _ (core-parts .1) in few (isLive (k .session)) (k .shelf .count) (t .0)
@@ -68,4 +63,4 @@ module _ (k : Core) (e : coreSound k ≡ true) where
   unfolding shelfSound
   films-fit i d h =
       let t = all-true _ (core-parts .1) in
-      film-fits (k .numbers) (getD (filmsOf (k .shelf)) i d) (numbers-short (k .numbers) (core-parts .0) .1) (every-at (filmSound (k .numbers)) (filmsOf (k .shelf)) i d (t .1 .0) h)
+      film-fits (k .numbers) (getD (filmsOf (k .shelf)) i d) (serial-left (k .numbers) (core-parts .0)) (every-at (filmSound (k .numbers)) (filmsOf (k .shelf)) i d (t .1 .0) h)

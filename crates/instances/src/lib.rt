@@ -98,12 +98,12 @@ pub enum Whom {
 
 // The first of the UIDs made from a serial on, `count` of them, that is a UID; `count` where none is.
 fn made_place(root: &[u8], first: u32, count: usize, uid: &[u8]) -> usize
-    requires { ⌜ (length (now root) ≤ 40) × (first + count ≤ noneLeft) ⌝ }
+    requires { ⌜ first + count ≤ noneLeft ⌝ }
     ensures { λ r. ⌜ r ≡ placeOf (same (now (uid .entry))) (map (made (now (root .entry))) (from first count)) ⌝ }
 {
     let mut i = 0;
     while i < count {
-        if naming::is_made(root, first + i as u32, uid) {
+        if making::is_made(root, first + i as u32, uid) {
             return i;
         }
         i += 1;
@@ -113,7 +113,7 @@ fn made_place(root: &[u8], first: u32, count: usize, uid: &[u8]) -> usize
 
 // The place of the box that a UID names; how many boxes the film has where it names none.
 fn box_place(n: Numbers, f: Film, uid: &[u8]) -> usize
-    requires { ⌜ (n .used ≤ 40) × SerialsFit f ⌝ }
+    requires { ⌜ SerialsFit f ⌝ }
     ensures { λ r. ⌜ r ≡ placeOf (same (now (uid .entry))) (boxUids n f) ⌝ }
 {
     let root = n.root;
@@ -125,7 +125,7 @@ fn box_place(n: Numbers, f: Film, uid: &[u8]) -> usize
 
 // Whether a UID names a box of the film.
 fn has_box(n: Numbers, f: Film, uid: &[u8]) -> bool
-    requires { ⌜ (n .used ≤ 40) × SerialsFit f ⌝ }
+    requires { ⌜ SerialsFit f ⌝ }
     ensures { λ r. ⌜ r ≡ boxNamed n (now (uid .entry)) f ⌝ }
 {
     let layout = f.layout;
@@ -135,7 +135,7 @@ fn has_box(n: Numbers, f: Film, uid: &[u8]) -> bool
 
 // The place of the film that a UID names; `count` where it names none.
 fn film_named(n: Numbers, films: [Film; 8], count: usize, uid: &[u8]) -> usize
-    requires { ⌜ (n .used ≤ 40) × (count ≤ 8) ⌝ }
+    requires { ⌜ count ≤ 8 ⌝ }
     ensures { λ r. ⌜ (r ≡ placeOf (filmNamed n (now (uid .entry))) (take count films)) × (length (take count films) ≡ count) ⌝ }
 {
     let xs = films;
@@ -153,7 +153,7 @@ fn film_named(n: Numbers, films: [Film; 8], count: usize, uid: &[u8]) -> usize
 
 // The place of the film with the box that a UID names; `count` where it names none.
 fn film_with_box(n: Numbers, films: [Film; 8], count: usize, uid: &[u8]) -> usize
-    requires { ⌜ (n .used ≤ 40) × (count ≤ 8) × AllFit (take count films) ⌝ }
+    requires { ⌜ (count ≤ 8) × AllFit (take count films) ⌝ }
     ensures { λ r. ⌜ (r ≡ placeOf (boxNamed n (now (uid .entry))) (take count films)) × (length (take count films) ≡ count) ⌝ }
 {
     let xs = films;
@@ -169,7 +169,6 @@ fn film_with_box(n: Numbers, films: [Film; 8], count: usize, uid: &[u8]) -> usiz
 }
 
 fn is_session(n: Numbers, s: Session, uid: &[u8]) -> bool
-    requires { ⌜ n .used ≤ 40 ⌝ }
     ensures { λ r. ⌜ r ≡ both (isLive s) (same (now (uid .entry)) (uidOf n (s .name))) ⌝ }
 {
     if s.live == 0 {

@@ -1,2 +1,3 @@
--- What the writers of UIDs write.
+-- What the functions rest on.
+mod Compared
 mod Written

@@ -2,10 +2,9 @@
 use rules::Name;
 use rules::Numbers;
 ghost use mathlib.Core.Path.{_≡_};
-ghost use Prim.Native.Nat.{_≤_};
-ghost use lib.ListN.{length, take};
+ghost use lib.ListN.{take};
 ghost use Rattle.octets.specs.Octets.{same};
-ghost use Rattle.uids.specs.Uids.{beginsWith, unpadded, made};
+ghost use Rattle.uids.specs.Uids.{beginsWith, unpadded};
 ghost use Rattle.rules.specs.Records.{rootOf, uidOf};
 
 // The first n bytes, or all where there are fewer.
@@ -18,16 +17,6 @@ pub fn front(s: &[u8], n: usize) -> &[u8]
     s
 }
 
-// Whether a UID is the one made of a root, a dot and a serial.
-pub fn is_made(root: &[u8], serial: u32, uid: &[u8]) -> bool
-    requires { ⌜ length (now root) ≤ 40 ⌝ }
-    ensures { λ r. ⌜ r ≡ same (now (uid .entry)) (made (now (root .entry)) serial) ⌝ }
-{
-    let mut out = [0; 64];
-    let end = making::put_made(&mut out, 0, root, serial);
-    octets::same_bytes(uid, &out[0..end])
-}
-
 // Whether a UID begins with the root and a dot.
 pub fn is_rooted(n: Numbers, uid: &[u8]) -> bool
     ensures { λ r. ⌜ r ≡ beginsWith (rootOf n) (now (uid .entry)) ⌝ }
@@ -38,7 +27,6 @@ pub fn is_rooted(n: Numbers, uid: &[u8]) -> bool
 
 // Whether a UID is the one that a name stands for.
 pub fn is_named(n: Numbers, name: Name, uid: &[u8]) -> bool
-    requires { ⌜ n .used ≤ 40 ⌝ }
     ensures { λ r. ⌜ r ≡ same (now (uid .entry)) (uidOf n name) ⌝ }
 {
     let serial = name.made;
@@ -47,7 +35,7 @@ pub fn is_named(n: Numbers, name: Name, uid: &[u8]) -> bool
         return octets::same_bytes(uid, front(&text, name.used as usize));
     }
     let root = n.root;
-    is_made(front(&root, n.used as usize), serial.0, uid)
+    making::is_made(front(&root, n.used as usize), serial.0, uid)
 }
 
 // A UI value without its padding.

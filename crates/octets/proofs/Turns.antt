@@ -9,12 +9,13 @@ use native.Mathlib.Numerals.{add-one}
 use native.Mathlib.Omega.{arith}
 use lib.Dec.{eqb}
 use lib.ListN.{length, getD, set, take, drop, length-drop, drop-of-length-le}
-use lib.Seq.{drop-cons, take-length, take-all, drop-drop}
+use lib.Seq.{take-suc, take-length, take-all, drop-drop}
 use borrow.Rule.Slice.PartMut.{putMid}
 use Rattle.choice.specs.Pick.{pick}
 use Rattle.octets.specs.Octets.{numberAt, bigNumberAt, octets, laid, same}
 use Rattle.octets.proofs.Laid.{laid-none, laid-cons}
 use Rattle.octets.proofs.Numbers.{below-step}
+use Rattle.octets.proofs.Same.{same-back}
 
 -- a little-endian number is read from its last byte to its first: x is the byte before place i
 pub value-turn : (s : List ℕ) (at w i v x : ℕ) → 0 < i → i ≤ w → x ≡ getD s (at + (i - 1)) 0 → v ≡ numberAt (w - i) s (at + i)
@@ -65,23 +66,16 @@ copied-in b s x at h e =
     let k : length (drop at s) ≤ length s - at = omega (arith, length-drop at s) in
     rw (e, take-length b, take-all (length s - at) (drop at s) k, drop-of-length-le (drop at s) k, append-nil, drop-drop (length b) at s)
 
--- two lists are compared byte by byte
-pub same-turn : (s t : List ℕ) (i : ℕ) → i < length s → length s ≡ length t
-    → same (drop i s) (drop i t) ≡ pick (eqb (getD s i 0) (getD t i 0)) (same (drop (i + 1) s) (drop (i + 1) t)) false
-unfolding same
-same-turn s t i h e = rw (add-one i, drop-cons s i 0 h, drop-cons t i 0 (omega arith))
+-- two lists are compared from the last byte back
+pub same-turn : (s t : List ℕ) (i : ℕ) → 0 < i → i ≤ length s → length s ≡ length t
+    → same (take i s) (take i t) ≡ pick (eqb (getD s (i - 1) 0) (getD t (i - 1) 0)) (same (take (i - 1) s) (take (i - 1) t)) false
+same-turn s t i p h e =
+    let k : i ≡ suc (i - 1) = omega arith in
+    ap (λ (n : ℕ). same (take i s) (take n t)) k ∙ rw (take-suc t (i - 1) 0 (omega arith)) (same-back s (take (i - 1) t) i _ p h)
 
-pub same-end : (s t : List ℕ) (i : ℕ) → length s ≤ i → length s ≡ length t → same (drop i s) (drop i t) ≡ true
-unfolding same
-same-end s t i h e = let k : length t ≤ i = omega arith in rw (drop-of-length-le s h, drop-of-length-le t k)
+pub same-start : (s t : List ℕ) → length s ≡ length t → same (take (length s) s) (take (length s) t) ≡ same s t
+same-start s t e = rw (take-length s) (rw (e, take-length t))
 
-pub same-length : (s t : List ℕ) → (length s ≡ length t → ⊥) → same s t ≡ false
+pub same-end : (s t : List ℕ) (i : ℕ) → i ≤ 0 → same (take i s) (take i t) ≡ true
 unfolding same
-same-length [] [] n = absurd (n refl)
-same-length [] (y ∷ t) n = refl
-same-length (x ∷ s) [] n = refl
-same-length (x ∷ s) (y ∷ t) n = rw (same-length s t (λ e. n (ap suc e))) (last (eqb x y))
-  where
-    last : (b : Bool) → pick b false false ≡ false
-    last true = refl
-    last false = refl
+same-end s t i h = let k : i ≡ 0 = omega arith in rw k

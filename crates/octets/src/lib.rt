@@ -80,7 +80,7 @@ pub fn put(s: &mut [u8], at: usize, bytes: &[u8])
     bytes::copy(bytes, &mut s[at..]);
 }
 
-// Whether two slices hold the same bytes.
+// Whether two slices hold the same bytes: lengths first, then from the last byte back, for long UIDs differ at their end.
 pub fn same_bytes(s: &[u8], t: &[u8]) -> bool
     ensures { λ r. ⌜ r ≡ same (now (s .entry)) (now (t .entry)) ⌝ }
 {
@@ -88,12 +88,12 @@ pub fn same_bytes(s: &[u8], t: &[u8]) -> bool
     if n != t.len() {
         return false;
     }
-    let mut i = 0;
-    while i < n {
+    let mut i = n;
+    while 0 < i {
+        i -= 1;
         if s[i] != t[i] {
             return false;
         }
-        i += 1;
     }
     true
 }

@@ -14,10 +14,9 @@ use Rattle.attributes.proofs.reference_severity.Tie as tie
 
 sequence-severity-requires : tie.Need-sequence-severity-requires
 sequence-severity-requires c κs =
-    let start = c .before .before .before .before .before in
-    let a = start .args in
+    let a = c .before .before .before .before .before .args in
     let g = subst (FoundIn (0 + 8) (length (a .d .now))) (sym (c .before .before .before .find .ensures) ∙ c .before .inside .given .1) (find-within (a .d .now) (a .explicit) 4 (whole (a .d .now)) 0x2010_0500 (omega arith)) in
-    (start .pre, g .1 .0, g .1 .1)
+    g .1
 
 returns : tie.Need-returns
 returns c = let a = c .before .before .before .before .args in

@@ -14,8 +14,8 @@ item-severity-requires : tie.Need-item-severity-requires
 item-severity-requires c κs =
     let start = c .before .before .before .before .before in
     let a = start .args in
-    let g = subst (ItemsIn (a .inside .from + 8) (a .inside .stop)) (sym (c .before .before .before .items-in .ensures) ∙ c .before .item .given .1) (items-within (a .d .now) (a .explicit) 3 (a .inside) (start .pre .1)) in
-    (start .pre .0, g .1 .0, omega (arith, g .1 .1, start .pre .2))
+    let g = subst (ItemsIn (a .inside .from + 8) (a .inside .stop)) (sym (c .before .before .before .items-in .ensures) ∙ c .before .item .given .1) (items-within (a .d .now) (a .explicit) 3 (a .inside) (start .pre .0)) in
+    (g .1 .0, omega (arith, g .1 .1, start .pre .1))
 
 returns : tie.Need-returns
 returns c = let a = c .before .before .before .before .args in

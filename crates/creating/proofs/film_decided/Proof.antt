@@ -7,14 +7,13 @@ use Rattle.rules.specs.Records.{boxCount}
 use Rattle.rules.specs.Attributes.{listingOf}
 use Rattle.rules.specs.Checks.{films, newFilmRules, createPlan}
 use Rattle.verdicts.proofs.Plans.{broken-decides}
-use Rattle.promises.proofs.Facts.{root-short}
 use Rattle.creating.proofs.Laws.{serials-known, film-kept, room-left, new-few, film-decides}
 use borrow.Author.Needs.{needs}
 use Rattle.creating.proofs.film_decided.Statement.{statement}
 use Rattle.creating.proofs.film_decided.Tie as tie
 
 new-film-broken-requires : tie.Need-new-film-broken-requires
-new-film-broken-requires c κs = (root-short _ (c .before .before .before .pre .0 .0), serials-known _ (c .before .before .before .pre .0 .0) .1, c .before .before .before .pre .0 .1)
+new-film-broken-requires c κs = (serials-known _ (c .before .before .before .pre .0 .0) .1, c .before .before .before .pre .0 .1)
 
 returns : tie.Need-returns
 unfolding createPlan

@@ -1,6 +1,5 @@
 use mathlib.Core.Path.{_∙_}
 use native.Mathlib.Omega.{arith}
-use lib.ListN.{length-take}
 use Rattle.rules.specs.Records.{rootOf, boxUids}
 use borrow.Author.Needs.{needs}
 use Rattle.instances.proofs.box_place.Statement.{statement}
@@ -8,7 +7,7 @@ use Rattle.instances.proofs.box_place.Tie as tie
 
 made-place-requires : tie.Need-made-place-requires
 made-place-requires c κs = let pre = c .before .before .before .before .before .before .before .before .pre in
-    (rw (c .front .ensures, length-take) (omega (arith, pre .0)), omega (arith, c .before .before .before .before .box-count .ensures .0, pre .1))
+    omega (arith, c .before .before .before .before .box-count .ensures .0, pre)
 
 returns : tie.Need-returns
 unfolding boxUids rootOf

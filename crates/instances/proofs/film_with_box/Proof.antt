@@ -25,7 +25,7 @@ has-box-requires c κs = let o = c .before .before .loop in
     let a = c .before .before .before .before .args in
     let h = c .before .loop-test .taken in
     let within : o .i < length (take (a .count) (a .films)) = omega (arith, o .inv .1, h) in
-    (search needs, subst SerialsFit (getD-take _ _ (o .i) _ h) (c .before .before .before .before .pre .2 (o .i) _ within))
+    subst SerialsFit (getD-take _ _ (o .i) _ h) (c .before .before .before .before .pre .1 (o .i) _ within)
 
 returns : tie.Need-returns Inv-loop μ-loop
 returns c = let o = c .before .before .before .before .loop in

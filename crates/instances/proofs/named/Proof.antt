@@ -8,20 +8,17 @@ use Rattle.rules.specs.Lists.{placeOf}
 use Rattle.rules.specs.Records.{noFilm, boxUids, filmsOf}
 use Rattle.instances.specs.There.{SerialsFit}
 use Rattle.instances.proofs.Naming.{getD-within, names-session, names-film, names-unrooted, names-nobody, names-box, box-there}
-use Rattle.instances.proofs.Soundness.{root-short, films-few, films-fit}
+use Rattle.instances.proofs.Soundness.{films-few, films-fit}
 use borrow.Author.Needs.{needs}
 use Rattle.instances.proofs.named.Statement.{statement}
 use Rattle.instances.proofs.named.Tie as tie
-
-is-session-requires : tie.Need-is-session-requires
-is-session-requires c κs = root-short _ (c .before .before .before .pre)
 
 returns : tie.Need-returns
 returns c = (names-session _ _ (sym (c .before .is-session .ensures) ∙ c .if1 .taken), tt)
 
 film-named-requires : tie.Need-film-named-requires
 film-named-requires c κs = let sound = c .before .before .before .before .before .before .before .before .pre in
-    (root-short _ sound, films-few _ sound)
+    films-few _ sound
 
 returns-2 : tie.Need-returns-2
 unfolding filmsOf
@@ -40,7 +37,7 @@ returns-3 c = let a = c .before .before .before .before .before .before .before 
 film-with-box-requires : tie.Need-film-with-box-requires
 unfolding filmsOf
 film-with-box-requires c κs = let sound = c .before .before .before .before .before .before .before .before .before .before .before .before .pre in
-    (root-short _ sound, films-few _ sound, films-fit _ sound)
+    (films-few _ sound, films-fit _ sound)
 
 returns-4 : tie.Need-returns-4
 unfolding filmsOf
@@ -60,7 +57,7 @@ box-place-requires : tie.Need-box-place-requires
 unfolding filmsOf
 box-place-requires c κs = let sound = c .before .before .before .before .before .before .before .before .before .before .before .before .before .before .before .pre in
     let g = c .before .before .film-with-box in
-    (root-short _ sound, subst SerialsFit (getD-take _ _ (g .result) _ (c .before .if4 .left)) (films-fit _ sound (g .result) _ (omega (arith, g .ensures .1, c .before .if4 .left))))
+    subst SerialsFit (getD-take _ _ (g .result) _ (c .before .if4 .left)) (films-fit _ sound (g .result) _ (omega (arith, g .ensures .1, c .before .if4 .left)))
 
 returns-5 : tie.Need-returns-5
 unfolding filmsOf
@@ -77,7 +74,7 @@ pub named-spec : {M : Type 1} → statement M
 named-spec =
     tie.close
     (tie.spec
-    is-session-requires
+    (λ c κs. search needs)
     returns
     (λ c. search needs)
     film-named-requires

@@ -1,5 +1,4 @@
 use mathlib.Core.Path.{ap, _∙_}
-use lib.ListN.{length-take}
 use borrow.Author.Tests.{eq-eqb, ne-eqb}
 use Rattle.octets.specs.Octets.{same}
 use Rattle.uids.specs.Uids.{made}
@@ -12,9 +11,6 @@ returns : tie.Need-returns
 unfolding uidOf rootOf
 returns c = let a = c .before .before .before .before .before .before .before .before .before .args in
     c .same-bytes .ensures ∙ ap (same (a .uid .now)) (c .before .front .ensures) ∙ simp (eq-eqb _ _ (c .before .before .before .before .before .if1 .taken))
-
-is-made-requires : tie.Need-is-made-requires
-is-made-requires c κs = rw (c .front2 .ensures, length-take) (search needs)
 
 returns-2 : tie.Need-returns-2
 unfolding uidOf rootOf
@@ -33,5 +29,5 @@ is-named-spec =
     (λ c. search needs)
     (λ c. search needs)
     (λ c κs. search needs)
-    is-made-requires
+    (λ c κs. search needs)
     returns-2)
