@@ -9,7 +9,7 @@ use lib.Dec.{leb, ltb}
 use lib.ListN.{length, drop, replicate, length-replicate, replicate-append-replicate}
 use lib.Seq.{drop-at}
 use borrow.Author.Tests.{ltb-true, ltb-false, leb-true, eqb-true}
-use Rattle.choice.specs.Pick.{pick, either, not}
+use Rattle.choice.specs.Pick.{pick, either}
 use Rattle.choice.specs.Rules.{firstBroken}
 use Rattle.choice.proofs.Picks.{both-true}
 use Rattle.octets.specs.Octets.{laid}

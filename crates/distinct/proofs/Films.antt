@@ -2,7 +2,7 @@
 -- Assumes nothing.
 use mathlib.Core.Path.{_≡_, refl}
 use mathlib.Core.Bool.{Bool, true, false}
-use mathlib.Core.List.{List, [], _∷_}
+use mathlib.Core.List.{List}
 use Rattle.choice.specs.Pick.{both, not}
 use Rattle.choice.proofs.Picks.{both-assoc}
 use Rattle.rules.specs.declared.Name.{Name}

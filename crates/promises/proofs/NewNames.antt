@@ -8,7 +8,7 @@ use native.Mathlib.Omega.{arith}
 use lib.Dec.{eqb, leb, ltb}
 use lib.ListN.{length, take}
 use borrow.Author.Tests.{ltb-true, lt-ltb, le-ltb, leb-true, eqb-true, eqb-false, ne-eqb}
-use Rattle.choice.specs.Pick.{pick, both, either, not}
+use Rattle.choice.specs.Pick.{pick, either, not}
 use Rattle.choice.proofs.Picks.{Kept, pick-cases, both-true, both-fails, both-second, either-false, not-false, clash}
 use Rattle.octets.specs.Octets.{same}
 use Rattle.octets.proofs.Same.{same-equal, same-self}
