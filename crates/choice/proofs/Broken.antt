@@ -1,11 +1,11 @@
 -- Rows of rules by the number of the first that is broken.
 -- Assumes nothing.
-use mathlib.Core.Path.{_≡_, refl, ap, subst}
-use mathlib.Core.Bool.{Bool, true, false}
+use mathlib.Core.Path.{_≡_, refl}
+use mathlib.Core.Bool.{true, false}
 use mathlib.Core.List.{List, [], _∷_, _++_}
 use Prim.Native.Nat.{ℕ}
 use lib.Dec.{T, eqb}
-use Rattle.choice.specs.Pick.{pick, both, not}
+use Rattle.choice.specs.Pick.{pick, not}
 use Rattle.choice.specs.Rules.{Rule, _⇒_, firstOr, firstBroken, numbered}
 use Rattle.choice.proofs.Picks.{both-true, both-holds, not-true}
 

@@ -5,10 +5,9 @@ use mathlib.Core.Path.{_≡_, refl, sym, ap, _∙_}
 use mathlib.Core.Bool.{Bool, true, false}
 use mathlib.Core.List.{List, [], _++_}
 use lib.Dec.{eqb, leb}
-use lib.ListN.{length, take, drop, length-append, length-drop}
+use lib.ListN.{length, take, drop, length-append}
 use borrow.Author.Tests.{leb-true, le-leb, lt-leb}
-use lib.Seq.{length-take-le, take-all}
-use native.Mathlib.Omega.{arith}
+use lib.Seq.{length-take-le}
 use Rattle.choice.specs.Pick.{pick}
 use Rattle.choice.proofs.Picks.{clash}
 use Rattle.strike.specs.Service.{Reading, unreadable, alone, withData}
@@ -223,9 +222,6 @@ module _ (room : ℕ) (i : Input) (message bytes : List ℕ) (last : Bool) {x : 
   laid-arm = ap (λ (y : machine.Input). laidBy room y (dataset last bytes) message) met
 
 -- A fragment behind its header.
-
-pub whole-part : (f : List ℕ) → take (length f - 6) (drop 6 f) ≡ drop 6 f
-whole-part f = take-all (length f - 6) (drop 6 f) (omega (arith, length-drop 6 f))
 
 pub fragment-of : (f : List ℕ) (t last : Bool) (bytes : List ℕ) → ofCommand f ≡ t → last ≡ isLast f → bytes ≡ drop 6 f → pick t command dataset last bytes ≡ fragmentOf f
 fragment-of f t last bytes e l b =

@@ -7,7 +7,7 @@ use native.Mathlib.Nat.{add-assoc}
 use native.Mathlib.Numerals.{add-one}
 use native.Mathlib.Omega.{arith}
 use lib.ListN.{length, getD, set, take, drop, length-append, length-take, length-drop, take-append-drop}
-use lib.Seq.{take-at, take-all, drop-at, drop-drop, length-take-le, take-append-seam, drop-append-seam, take-take, getD-take, getD-drop, take-suc-set, drop-set-lt, take-add}
+use lib.Seq.{take-at, drop-at, drop-drop, length-take-le, take-append-seam, drop-append-seam, take-take, getD-take, getD-drop, take-suc-set, drop-set-lt, take-add}
 use Rattle.octets.specs.Octets.{part, laid}
 
 -- the bytes stand in the list at a place
@@ -95,6 +95,6 @@ stands-room s at b bytes e =
     let l = simp (length-take, length-drop, added at (suc (length bytes))) at (ap length e) in
     omega arith
 
--- the part of a slice from a place on
-pub rest : (s : List ℕ) (at : ℕ) → take (length s - at) (drop at s) ≡ drop at s
-rest s at = take-all (length s - at) (drop at s) (omega (arith, length-drop at s))
+-- what was laid in front stands there
+pub laid-front : (s out bytes : List ℕ) (n : ℕ) → out ≡ laid s 0 bytes → n ≡ length bytes → take n out ≡ bytes
+laid-front s out bytes n e h = rw (e, h) (take-append-seam bytes (drop (0 + length bytes) s))

@@ -2,7 +2,7 @@
 ghost use mathlib.Core.Path.{_≡_};
 ghost use Prim.Native.Nat.{_+_, _≤_, _<_, _^_, _%_};
 ghost use lib.ListN.{length};
-ghost use Rattle.octets.specs.Octets.{numberAt, bigNumberAt, octets, part, laid, same};
+ghost use Rattle.octets.specs.Octets.{numberAt, bigNumberAt, octets, laid, same};
 
 fn wide(b: u8) -> u64
     ensures { λ r. ⌜ (r ≡ b) × (r < 256) ⌝ }

@@ -12,7 +12,7 @@ use verdicts::NewBoxes;
 use verdicts::Notice;
 use verdicts::Verdict;
 ghost use mathlib.Core.Path.{_≡_};
-ghost use mathlib.Core.Bool.{true, false};
+ghost use mathlib.Core.Bool.{true};
 ghost use Prim.Native.Nat.{_<_, _≤_};
 ghost use lib.ListN.{length, getD, set};
 ghost use Rattle.choice.specs.Rules.{firstBroken};

@@ -6,8 +6,8 @@ use mathlib.Core.Bool.{true, false}
 use mathlib.Core.List.{List, [], _∷_, _++_}
 use native.Mathlib.Numerals.{add-one}
 use native.Mathlib.Omega.{arith}
-use lib.ListN.{length, getD, take, drop, length-drop, drop-of-length-le}
-use lib.Seq.{drop-cons, take-suc, take-all}
+use lib.ListN.{length, getD, take, drop, drop-of-length-le}
+use lib.Seq.{drop-cons, take-suc}
 use borrow.Author.Tests.{eq-eqb, ne-eqb, le-leb, lt-leb}
 use Rattle.choice.specs.Pick.{pick, both}
 use Rattle.choice.proofs.Picks.{pick-cases}
@@ -15,14 +15,6 @@ use Rattle.uids.specs.Uids.{digits}
 use Rattle.rules.specs.Lists.{every}
 use Rattle.rules.specs.Values.{withoutLeading, unlessSpace, withoutTrailing, trimmed, withoutPlus, decimalValue, countIn, labelByte}
 use Rattle.texts.specs.Counted.{counted}
-
--- all that stands behind a place
-pub rest : (s : List ℕ) (a : ℕ) → take (length s - a) (drop a s) ≡ drop a s
-rest s a = take-all (length s - a) (drop a s) (omega (arith, length-drop a s))
-
--- all that stands before one
-pub front : (s : List ℕ) (n : ℕ) → take (n - 0) (drop 0 s) ≡ take n s
-front s n = let e : n - 0 ≡ n = omega arith in ap (λ m. take m s) e
 
 -- Spaces in front.
 

@@ -2,8 +2,7 @@
 -- Assumes nothing.
 use Prim.Native.Nat.{ℕ, suc, _+_, _-_, _<_, _≤_}
 use mathlib.Core.Path.{_≡_, refl, sym}
-use mathlib.Core.Bool as bool
-use mathlib.Core.Bool.{Bool, true, false}
+use mathlib.Core.Bool.{true, false}
 use mathlib.Core.List.{List, [], _∷_, _++_}
 use native.Mathlib.Numerals.{add-one}
 use native.Mathlib.Omega.{arith}
@@ -57,8 +56,3 @@ unfolding beginsWith
 too-short root uid h =
     rw (List·getD-eq-default uid 0 h)
     (pick-cases (λ b. b ≡ false) (same root (take (length root) uid)) false false (λ e. refl) (λ e. refl))
-
--- the code's `!`
-pub nots : (b : Bool) → bool.not b ≡ not b
-nots true = refl
-nots false = refl

@@ -1,5 +1,5 @@
 -- What a request that is decided may rest on: sound records, and a command whose places and UIDs are in order.
-use Prim.Native.Nat.{ℕ, _≤_}
+use Prim.Native.Nat.{ℕ}
 use mathlib.Core.Path.{_≡_}
 use mathlib.Core.Bool.{true}
 use mathlib.Core.List.{List}

@@ -7,7 +7,8 @@ use Rattle.strike.specs.Machine.{Fragment, collect, laidBy}
 use Rattle.rules.specs.Calls.{reading}
 use Rattle.rules.specs.Outcomes.{inputIn}
 use Rattle.collecting.specs.Collecting.{collectedOf}
-use Rattle.collecting.proofs.Outcomes.{command-met, whole-part, fragment-of, laid-command}
+use Rattle.octets.proofs.Parts.{rest}
+use Rattle.collecting.proofs.Outcomes.{command-met, fragment-of, laid-command}
 use borrow.Author.Needs.{needs}
 use Rattle.collecting.proofs.collect.Statement.{statement}
 use Rattle.collecting.proofs.collect.Tie as tie
@@ -19,7 +20,7 @@ returns c =
     let m = now (a .message) in
     let last = c .before .before .before .before .is-last .result in
     let bytes = take (length f - 6) (drop 6 f) in
-    let e = fragment-of f true last bytes (sym (c .before .before .before .is-command .ensures) ∙ c .before .before .if1 .taken) (c .before .before .before .before .is-last .ensures) (whole-part f) in (
+    let e = fragment-of f true last bytes (sym (c .before .before .before .is-command .ensures) ∙ c .before .before .if1 .taken) (c .before .before .before .before .is-last .ensures) (rest f 6) in (
       c .by-command .ensures
           ∙ ap collectedOf (sym (command-met (length m) (a .i) m bytes last) ∙ ap (λ (x : Fragment). collect reading (length m) (inputIn (a .i) m) x) e),
       sym (laid-command (length m) (inputIn (a .i) m) last bytes m) ∙ ap (λ (x : Fragment). laidBy (length m) (inputIn (a .i) m) x m) e,
@@ -32,7 +33,7 @@ returns-2 c =
     let m = now (a .message) in
     let last = c .before .before .before .before .before .before .before .is-last .result in
     let bytes = take (length f - 6) (drop 6 f) in
-    let e = fragment-of f false last bytes (sym (c .before .before .before .before .before .before .is-command .ensures) ∙ c .before .before .before .before .before .if1 .left) (c .before .before .before .before .before .before .before .is-last .ensures) (whole-part f) in (
+    let e = fragment-of f false last bytes (sym (c .before .before .before .before .before .before .is-command .ensures) ∙ c .before .before .before .before .before .if1 .left) (c .before .before .before .before .before .before .before .is-last .ensures) (rest f 6) in (
       c .before .before .by-data .ensures .0 ∙ ap (λ (x : Fragment). collectedOf (collect reading (length m) (inputIn (a .i) m) x)) e,
       c .before .before .by-data .ensures .1 ∙ ap (λ (x : Fragment). laidBy (length m) (inputIn (a .i) m) x m) e,
     )

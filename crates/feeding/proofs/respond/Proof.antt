@@ -2,7 +2,7 @@ use mathlib.Core.Path.{ap, _∙_}
 use denote.Ref.{now}
 use Rattle.rules.specs.Records.{uidOf}
 use Rattle.responses.specs.Parts.{given}
-use Rattle.naming.proofs.Parts.{laid-front}
+use Rattle.octets.proofs.Laid.{laid-front}
 use Rattle.promises.proofs.Facts.{root-short}
 use Rattle.feeding.proofs.Response.{front-short, responded}
 use borrow.Author.Needs.{needs}

@@ -1,7 +1,7 @@
 use mathlib.Core.Path.{sym, ap, _∙_}
 use Rattle.rules.specs.Text.{chars}
 use Rattle.rules.specs.Values.{listed}
-use Rattle.texts.proofs.Turns.{rest}
+use Rattle.octets.proofs.Parts.{rest}
 use Rattle.layouts.proofs.Laws.{uneven-short, uneven-long, uneven-row, uneven-column, uneven-other}
 use borrow.Author.Needs.{needs}
 use Rattle.layouts.proofs.is_uneven.Statement.{statement}

@@ -3,7 +3,7 @@ use native.Mathlib.Omega.{arith}
 use lib.ListN.{drop, length-replicate, length-drop}
 use Rattle.rules.specs.Lists.{filledTo}
 use Rattle.rules.specs.Values.{numbersIn, byColumns}
-use Rattle.texts.proofs.Turns.{rest}
+use Rattle.octets.proofs.Parts.{rest}
 use Rattle.promises.proofs.Layouts.{listed-numbers}
 use Rattle.layouts.proofs.Laws.{standard-has, uneven-has, layout-told, standard-counts, uneven-counts, no-counts}
 use borrow.Author.Needs.{needs}

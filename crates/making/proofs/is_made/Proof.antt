@@ -1,10 +1,8 @@
-use mathlib.Core.Path.{_≡_, sym, _∙_}
+use mathlib.Core.Path.{sym, _∙_}
 use native.Mathlib.Numerals.{unary-clauses}
-use lib.ListN.{length, drop}
 use borrow.Author.Tests.{not-true, not-false, eq-eqb, ne-eqb}
 use Rattle.choice.proofs.Picks.{both-fails, both-only}
-use Rattle.octets.proofs.Laid.{rest}
-use Rattle.uids.specs.Uids.{decimal}
+use Rattle.octets.proofs.Parts.{rest}
 use Rattle.making.proofs.Compared.{no-dot, made-parts}
 use borrow.Author.Needs.{needs}
 use Rattle.making.proofs.is_made.Statement.{statement}

@@ -1,6 +1,6 @@
 use mathlib.Core.Path.{sym}
 use lib.Seq.{take-all}
-use Rattle.naming.proofs.Parts.{front}
+use Rattle.octets.proofs.Parts.{front}
 use borrow.Author.Needs.{needs}
 use Rattle.naming.proofs.front.Statement.{statement}
 use Rattle.naming.proofs.front.Tie as tie

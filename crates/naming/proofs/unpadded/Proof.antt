@@ -1,7 +1,7 @@
 use mathlib.Core.Path.{ap, _∙_}
 use lib.ListN.{take}
 use Rattle.uids.proofs.Padding.{unpadded-front}
-use Rattle.naming.proofs.Parts.{front}
+use Rattle.octets.proofs.Parts.{front}
 use borrow.Author.Needs.{needs}
 use Rattle.naming.proofs.unpadded.Statement.{statement}
 use Rattle.naming.proofs.unpadded.Tie as tie

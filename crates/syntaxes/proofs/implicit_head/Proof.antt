@@ -1,6 +1,6 @@
 use Prim.Native.Nat.{_-_}
 use native.Mathlib.Omega.{arith}
-use borrow.Author.Tests.{lt-ltb, le-ltb, eq-eqb, ne-eqb}
+use borrow.Author.Tests.{lt-ltb, le-ltb, ne-eqb}
 use Rattle.headers.specs.Header.{headAt, sizeAt, vrAt, lengthAt, vrWrong}
 use borrow.Author.Needs.{needs}
 use Rattle.syntaxes.proofs.implicit_head.Statement.{statement}

@@ -1,5 +1,5 @@
 use mathlib.Core.Path.{sym, _∙_}
-use Rattle.texts.proofs.Turns.{rest}
+use Rattle.octets.proofs.Parts.{rest}
 use borrow.Author.Needs.{needs}
 use Rattle.texts.proofs.without_leading.Statement.{statement}
 use Rattle.texts.proofs.without_leading.Tie as tie

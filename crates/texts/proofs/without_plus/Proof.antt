@@ -1,5 +1,6 @@
 use mathlib.Core.Path.{_∙_}
-use Rattle.texts.proofs.Turns.{rest, plus-none, plus-off, plus-not}
+use Rattle.octets.proofs.Parts.{rest}
+use Rattle.texts.proofs.Turns.{plus-none, plus-off, plus-not}
 use borrow.Author.Needs.{needs}
 use Rattle.texts.proofs.without_plus.Statement.{statement}
 use Rattle.texts.proofs.without_plus.Tie as tie

@@ -1,5 +1,5 @@
 use mathlib.Core.Path.{sym, _∙_}
-use Rattle.texts.proofs.Turns.{front}
+use Rattle.octets.proofs.Parts.{front}
 use borrow.Author.Needs.{needs}
 use Rattle.texts.proofs.without_trailing.Statement.{statement}
 use Rattle.texts.proofs.without_trailing.Tie as tie

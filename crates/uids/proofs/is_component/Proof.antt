@@ -2,7 +2,7 @@ use lib.Dec.{eqb}
 use lib.ListN.{getD}
 use borrow.Author.Tests.{eq-eqb, ne-eqb, not-true, not-false}
 use Rattle.uids.specs.Uids.{component}
-use Rattle.uids.proofs.Turns.{nots}
+use Rattle.choice.proofs.Picks.{nots}
 use borrow.Author.Needs.{needs}
 use Rattle.uids.proofs.is_component.Statement.{statement}
 use Rattle.uids.proofs.is_component.Tie as tie

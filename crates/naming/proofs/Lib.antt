@@ -1,2 +1,0 @@
--- What the functions rest on.
-pub mod Parts
