@@ -34,10 +34,10 @@ pub number-severity : (allowed : ℕ → Bool) (l : Listing) (tag : ℕ)
     → severity (number allowed l tag) ≡ severityBy (kindOf (look l tag)) (noBytes (valueOf l tag)) (both (isUS (valueOf l tag)) (allowed (us l tag)))
 number-severity allowed l tag = mandatory-severity noBytes (λ (v : List ℕ). both (isUS v) (allowed (usIn v))) l (look l tag)
 
--- by the number that the code has read and the test that it has made
-pub number-by : (allowed : ℕ → Bool) (l : Listing) (tag n : ℕ) (test : Bool) → n ≡ us l tag → allowed n ≡ test
-    → severityBy (kindOf (look l tag)) (noBytes (valueOf l tag)) (both (isUS (valueOf l tag)) test) ≡ severity (number allowed l tag)
-number-by allowed l tag n test e t = rw (sym t, e) (sym (number-severity allowed l tag))
+-- by what the code has read and the test that it has made
+pub number-by : (allowed : ℕ → Bool) (l : Listing) (tag kind size n : ℕ) (test : Bool) → kind ≡ kindOf (look l tag) → size ≡ length (valueOf l tag) → n ≡ us l tag → allowed n ≡ test
+    → severityBy kind (eqb size 0) (both (eqb size 2) test) ≡ severity (number allowed l tag)
+number-by allowed l tag kind size n test k z e t = rw (k, z, sym t, e) (sym (number-severity allowed l tag))
 
 -- rows times columns
 pub area-fits : (a b : ℕ) → a < 65536 → b < 65536 → a * b < 4294967296

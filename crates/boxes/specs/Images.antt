@@ -1,5 +1,6 @@
 -- The image that a data set gives a box, and where the list of its only item stands.
 use Prim.Native.Nat.{ℕ, _≤_}
+use mathlib.Core.Path.{_≡_}
 use mathlib.Core.Bool.{Bool, true, false}
 use mathlib.Core.List.{List}
 use lib.Dec.{eqb, leb}
@@ -9,7 +10,7 @@ use Rattle.elements.specs.declared.Items.{Items}
 use Rattle.elements.specs.declared.Items.the-variants.{Empty, One, Several}
 use Rattle.rules.specs.Values.{noBytes, photometrics}
 use Rattle.rules.specs.Attributes as attributes
-use Rattle.rules.specs.Attributes.{Listing, Standing, listingOf, onlyItem, look, mandatory, number, code, depthAllowed, pixelLength}
+use Rattle.rules.specs.Attributes.{Listing, Standing, listingOf, onlyItem, look, mandatory, number, code, depthAllowed, pixelLength, imageIn}
 use Rattle.standings.specs.Severity.{severity, worse}
 use Rattle.boxes.specs.declared.Image.{Image}
 use Rattle.boxes.specs.declared.Image.the-variants.{Keeps, Erases, TooMany, Fills}
@@ -30,6 +31,10 @@ ImageWithin n Keeps = Unit {0}
 ImageWithin n Erases = Unit {0}
 ImageWithin n TooMany = Unit {0}
 ImageWithin n (Fills inside) = (inside .from ≤ inside .stop) × (inside .stop ≤ n)
+
+-- the image is what the data set gives
+abbrev pub ImageRead : List ℕ → Bool → Image → Type 0
+ImageRead d explicit image = (imageMeant d explicit image ≡ imageIn (listingOf d explicit)) × ImageWithin (length d) image
 
 abbrev pub itemsImage : Items → Image
 itemsImage Empty = Erases

@@ -11,10 +11,10 @@ ghost use lib.Dec.{eqb, leb};
 ghost use lib.ListN.{length};
 ghost use Rattle.choice.specs.Pick.{both};
 ghost use Rattle.choice.specs.Rules.{firstBroken};
-ghost use Rattle.rules.specs.Values.{noBytes, isUS, photometrics, polarities, blank, codeIn};
+ghost use Rattle.rules.specs.Values.{photometrics, polarities, blank, codeIn};
 ghost use Rattle.rules.specs.Attributes.{attributeRules, optional, number, code, listingOf, look, valueOf, orKept, us, depth8, depthAllowed, pixelLength, imageStandings, sequenceStandings, imageIn, boxStandings, boxWith, pixels};
 ghost use Rattle.standings.specs.Severity.{kindOf, severity, severityBy, worst};
-ghost use Rattle.boxes.specs.Images.{listing, imageMeant, ImageWithin, itemsImage, pixelStanding, withExtents, withDepths, pictureGiven, fillsBox};
+ghost use Rattle.boxes.specs.Images.{listing, imageMeant, ImageWithin, ImageRead, itemsImage, pixelStanding, withExtents, withDepths, pictureGiven, fillsBox};
 
 const SAMPLES: usize = 0x0028_0002;
 
@@ -48,35 +48,35 @@ pub enum Image {
     Fills(Inside),
 }
 
-fn us(d: &[u8], explicit: bool, room: usize, inside: Inside, tag: usize) -> u16
+// A number of two bytes as it was sent: what stands under its tag, as an attribute, how many bytes it has, and the number.
+struct Sent {
+    kind: u8,
+    size: usize,
+    number: u16,
+}
+
+fn sent_at(d: &[u8], explicit: bool, room: usize, inside: Inside, tag: usize) -> Sent
     requires { ⌜ (inside .from ≤ inside .stop) × (inside .stop ≤ length (now d)) ⌝ }
-    ensures { λ r. ⌜ (r ≡ us (listing (now (d .entry)) explicit room inside) tag) × (r < 65536) ⌝ }
+    ensures { λ r. ⌜ (r .kind ≡ kindOf (look (listing (now (d .entry)) explicit room inside) tag)) × (r .size ≡ length (valueOf (listing (now (d .entry)) explicit room inside) tag)) × (r .number ≡ us (listing (now (d .entry)) explicit room inside) tag) × (r .number < 65536) ⌝ }
 {
     let at = standings::look(d, explicit, room, inside, tag);
     let place = at.value;
-    values::us_in(standings::value(d, place))
+    let v = standings::value(d, place);
+    Sent {
+        kind: at.kind,
+        size: v.len(),
+        number: values::us_in(v),
+    }
 }
 
 // A mandatory number of two bytes, by the test that it is allowed.
-fn us_severity(
-    d: &[u8],
-    explicit: bool,
-    room: usize,
-    inside: Inside,
-    tag: usize,
-    allowed: bool,
-) -> u8
-    requires { ⌜ (inside .from ≤ inside .stop) × (inside .stop ≤ length (now d)) ⌝ }
-    ensures { λ r. ⌜ r ≡ severityBy (kindOf (look (listing (now (d .entry)) explicit room inside) tag)) (noBytes (valueOf (listing (now (d .entry)) explicit room inside) tag)) (both (isUS (valueOf (listing (now (d .entry)) explicit room inside) tag)) allowed) ⌝ }
+fn us_severity(n: Sent, allowed: bool) -> u8
+    ensures { λ r. ⌜ r ≡ severityBy (n .kind) (eqb (n .size) 0) (both (eqb (n .size) 2) allowed) ⌝ }
 {
-    let at = standings::look(d, explicit, room, inside, tag);
-    let kind = at.kind;
-    let place = at.value;
-    let size = standings::value(d, place).len();
-    if size != 2 {
-        return standings::severity(kind, size == 0, false);
+    if n.size != 2 {
+        return standings::severity(n.kind, n.size == 0, false);
     }
-    standings::severity(kind, false, allowed)
+    standings::severity(n.kind, false, allowed)
 }
 
 // A mandatory number that is no other than this.
@@ -84,8 +84,8 @@ fn exactly_severity(d: &[u8], explicit: bool, inside: Inside, tag: usize, only: 
     requires { ⌜ (inside .from ≤ inside .stop) × (inside .stop ≤ length (now d)) ⌝ }
     ensures { λ r. ⌜ r ≡ severity (number (λ n. eqb n only) (listing (now (d .entry)) explicit 3 inside) tag) ⌝ }
 {
-    let n = us(d, explicit, 3, inside, tag);
-    us_severity(d, explicit, 3, inside, tag, n == only)
+    let n = sent_at(d, explicit, 3, inside, tag);
+    us_severity(n, n.number == only)
 }
 
 // Rows and columns: from 1.
@@ -93,8 +93,8 @@ fn extent_severity(d: &[u8], explicit: bool, inside: Inside, tag: usize) -> u8
     requires { ⌜ (inside .from ≤ inside .stop) × (inside .stop ≤ length (now d)) ⌝ }
     ensures { λ r. ⌜ r ≡ severity (number (λ n. leb 1 n) (listing (now (d .entry)) explicit 3 inside) tag) ⌝ }
 {
-    let n = us(d, explicit, 3, inside, tag);
-    us_severity(d, explicit, 3, inside, tag, 1 <= n)
+    let n = sent_at(d, explicit, 3, inside, tag);
+    us_severity(n, 1 <= n.number)
 }
 
 // Three numbers of an item are these.
@@ -109,13 +109,13 @@ fn depth_is(
     requires { ⌜ (inside .from ≤ inside .stop) × (inside .stop ≤ length (now d)) ⌝ }
     ensures { λ r. ⌜ r ≡ both (eqb (us (listing (now (d .entry)) explicit 3 inside) 0x0028_0100) allocated) (both (eqb (us (listing (now (d .entry)) explicit 3 inside) 0x0028_0101) stored) (eqb (us (listing (now (d .entry)) explicit 3 inside) 0x0028_0102) high)) ⌝ }
 {
-    if us(d, explicit, 3, inside, ALLOCATED) != allocated {
+    if sent_at(d, explicit, 3, inside, ALLOCATED).number != allocated {
         return false;
     }
-    if us(d, explicit, 3, inside, STORED) != stored {
+    if sent_at(d, explicit, 3, inside, STORED).number != stored {
         return false;
     }
-    us(d, explicit, 3, inside, HIGH_BIT) == high
+    sent_at(d, explicit, 3, inside, HIGH_BIT).number == high
 }
 
 fn is_depth8(d: &[u8], explicit: bool, inside: Inside) -> bool
@@ -125,23 +125,23 @@ fn is_depth8(d: &[u8], explicit: bool, inside: Inside) -> bool
     depth_is(d, explicit, inside, 8, 8, 7)
 }
 
-// 8,8,7 or 16,12,11
-fn depth_allowed(d: &[u8], explicit: bool, inside: Inside) -> bool
-    requires { ⌜ (inside .from ≤ inside .stop) × (inside .stop ≤ length (now d)) ⌝ }
+// 8,8,7 (`eight` says so) or 16,12,11
+fn depth_allowed(d: &[u8], explicit: bool, inside: Inside, eight: bool) -> bool
+    requires { ⌜ (inside .from ≤ inside .stop) × (inside .stop ≤ length (now d)) × (eight ≡ depth8 (listing (now d) explicit 3 inside)) ⌝ }
     ensures { λ r. ⌜ r ≡ depthAllowed (listing (now (d .entry)) explicit 3 inside) ⌝ }
 {
-    if is_depth8(d, explicit, inside) {
+    if eight {
         return true;
     }
     depth_is(d, explicit, inside, 16, 12, 11)
 }
 
-fn depth_severity(d: &[u8], explicit: bool, inside: Inside, tag: usize) -> u8
-    requires { ⌜ (inside .from ≤ inside .stop) × (inside .stop ≤ length (now d)) ⌝ }
+// A number of a depth, which is allowed where all three are.
+fn depth_severity(d: &[u8], explicit: bool, inside: Inside, tag: usize, allowed: bool) -> u8
+    requires { ⌜ (inside .from ≤ inside .stop) × (inside .stop ≤ length (now d)) × (allowed ≡ depthAllowed (listing (now d) explicit 3 inside)) ⌝ }
     ensures { λ r. ⌜ r ≡ severity (number (λ n. depthAllowed (listing (now (d .entry)) explicit 3 inside)) (listing (now (d .entry)) explicit 3 inside) tag) ⌝ }
 {
-    let allowed = depth_allowed(d, explicit, inside);
-    us_severity(d, explicit, 3, inside, tag, allowed)
+    us_severity(sent_at(d, explicit, 3, inside, tag), allowed)
 }
 
 fn photometric_severity(d: &[u8], explicit: bool, inside: Inside) -> u8
@@ -156,27 +156,27 @@ fn photometric_severity(d: &[u8], explicit: bool, inside: Inside) -> u8
 }
 
 // "length rows × columns × 1 or 2"
-fn pixel_length(d: &[u8], explicit: bool, inside: Inside) -> usize
-    requires { ⌜ (inside .from ≤ inside .stop) × (inside .stop ≤ length (now d)) ⌝ }
+fn pixel_length(d: &[u8], explicit: bool, inside: Inside, eight: bool) -> usize
+    requires { ⌜ (inside .from ≤ inside .stop) × (inside .stop ≤ length (now d)) × (eight ≡ depth8 (listing (now d) explicit 3 inside)) ⌝ }
     ensures { λ r. ⌜ r ≡ pixelLength (listing (now (d .entry)) explicit 3 inside) ⌝ }
 {
-    let rows = us(d, explicit, 3, inside, ROWS) as usize;
-    let columns = us(d, explicit, 3, inside, COLUMNS) as usize;
-    if is_depth8(d, explicit, inside) {
+    let rows = sent_at(d, explicit, 3, inside, ROWS).number as usize;
+    let columns = sent_at(d, explicit, 3, inside, COLUMNS).number as usize;
+    if eight {
         return rows * columns;
     }
     rows * columns * 2
 }
 
-fn pixels_severity(d: &[u8], explicit: bool, inside: Inside) -> u8
-    requires { ⌜ (inside .from ≤ inside .stop) × (inside .stop ≤ length (now d)) ⌝ }
+fn pixels_severity(d: &[u8], explicit: bool, inside: Inside, eight: bool) -> u8
+    requires { ⌜ (inside .from ≤ inside .stop) × (inside .stop ≤ length (now d)) × (eight ≡ depth8 (listing (now d) explicit 3 inside)) ⌝ }
     ensures { λ r. ⌜ r ≡ severity (pixelStanding (listing (now (d .entry)) explicit 3 inside)) ⌝ }
 {
     let at = standings::look(d, explicit, 3, inside, PIXEL_DATA);
     let kind = at.kind;
     let place = at.value;
     let size = standings::value(d, place).len();
-    let expected = pixel_length(d, explicit, inside);
+    let expected = pixel_length(d, explicit, inside, eight);
     standings::severity(kind, size == 0, size == expected)
 }
 
@@ -194,13 +194,14 @@ fn with_extents(d: &[u8], explicit: bool, inside: Inside, others: u8) -> u8
 }
 
 // The worst of the three numbers of a depth and others.
-fn with_depths(d: &[u8], explicit: bool, inside: Inside, others: u8) -> u8
-    requires { ⌜ (inside .from ≤ inside .stop) × (inside .stop ≤ length (now d)) ⌝ }
+fn with_depths(d: &[u8], explicit: bool, inside: Inside, eight: bool, others: u8) -> u8
+    requires { ⌜ (inside .from ≤ inside .stop) × (inside .stop ≤ length (now d)) × (eight ≡ depth8 (listing (now d) explicit 3 inside)) ⌝ }
     ensures { λ r. ⌜ r ≡ withDepths (listing (now (d .entry)) explicit 3 inside) others ⌝ }
 {
-    let allocated = depth_severity(d, explicit, inside, ALLOCATED);
-    let stored = depth_severity(d, explicit, inside, STORED);
-    let high = depth_severity(d, explicit, inside, HIGH_BIT);
+    let allowed = depth_allowed(d, explicit, inside, eight);
+    let allocated = depth_severity(d, explicit, inside, ALLOCATED, allowed);
+    let stored = depth_severity(d, explicit, inside, STORED, allowed);
+    let high = depth_severity(d, explicit, inside, HIGH_BIT, allowed);
     standings::worse(
         allocated,
         standings::worse(stored, standings::worse(high, others)),
@@ -213,8 +214,9 @@ fn image_worst(d: &[u8], explicit: bool, inside: Inside) -> u8
     ensures { λ r. ⌜ r ≡ worst (imageStandings (listing (now (d .entry)) explicit 3 inside)) ⌝ }
 {
     let sign = exactly_severity(d, explicit, inside, REPRESENTATION, 0);
-    let data = pixels_severity(d, explicit, inside);
-    let depths = with_depths(d, explicit, inside, standings::worse(sign, data));
+    let eight = is_depth8(d, explicit, inside);
+    let data = pixels_severity(d, explicit, inside, eight);
+    let depths = with_depths(d, explicit, inside, eight, standings::worse(sign, data));
     with_extents(d, explicit, inside, depths)
 }
 
@@ -229,7 +231,7 @@ fn image_of(items: Items) -> Image
 }
 
 pub fn image_in(d: &[u8], explicit: bool) -> Image
-    ensures { λ r. ⌜ (imageMeant (now (d .entry)) explicit r ≡ imageIn (listingOf (now (d .entry)) explicit)) × ImageWithin (length (now (d .entry))) r ⌝ }
+    ensures { λ r. ⌜ ImageRead (now (d .entry)) explicit r ⌝ }
 {
     let whole = standings::whole(d);
     match finding::find(d, explicit, 4, whole, IMAGE_SEQUENCE) {
@@ -256,11 +258,12 @@ fn position_severity(boxes: usize, d: &[u8], explicit: bool) -> u8
     ensures { λ r. ⌜ r ≡ severity (number (λ n. both (leb 1 n) (leb n boxes)) (listingOf (now (d .entry)) explicit) 0x2020_0010) ⌝ }
 {
     let whole = standings::whole(d);
-    let n = us(d, explicit, 4, whole, POSITION) as usize;
-    if n < 1 {
-        return us_severity(d, explicit, 4, whole, POSITION, false);
+    let n = sent_at(d, explicit, 4, whole, POSITION);
+    let position = n.number as usize;
+    if position < 1 {
+        return us_severity(n, false);
     }
-    us_severity(d, explicit, 4, whole, POSITION, n <= boxes)
+    us_severity(n, position <= boxes)
 }
 
 fn polarity_severity(d: &[u8], explicit: bool) -> u8
@@ -274,12 +277,12 @@ fn polarity_severity(d: &[u8], explicit: bool) -> u8
     standings::optional_severity(kind, texts::is_blank(v), values::polarity_in(v) < 2)
 }
 
-pub fn box_broken(boxes: usize, d: &[u8], explicit: bool) -> u16
+pub fn box_broken(boxes: usize, d: &[u8], explicit: bool, image: Image) -> u16
+    requires { ⌜ ImageRead (now d) explicit image ⌝ }
     ensures { λ r. ⌜ r ≡ firstBroken (attributeRules (boxStandings boxes (listingOf (now (d .entry)) explicit))) ⌝ }
 {
     let position = position_severity(boxes, d, explicit);
     let polarity = polarity_severity(d, explicit);
-    let image = image_in(d, explicit);
     let sequence = sequence_worst(d, explicit, image);
     standings::status_of(standings::worse(position, standings::worse(polarity, sequence)))
 }
@@ -310,15 +313,14 @@ fn polarity_or(d: &[u8], explicit: bool, kept: u8) -> u8
 }
 
 // A box with what the data set gives, where `next` is the next picture number.
-pub fn box_with(next: u32, d: &[u8], explicit: bool, b: ImageBox) -> ImageBox
-    requires { ⌜ us (listingOf (now d) explicit) 0x2020_0010 < 256 ⌝ }
+pub fn box_with(next: u32, d: &[u8], explicit: bool, image: Image, b: ImageBox) -> ImageBox
+    requires { ⌜ (us (listingOf (now d) explicit) 0x2020_0010 < 256) × ImageRead (now d) explicit image ⌝ }
     ensures { λ r. ⌜ r ≡ boxWith next (listingOf (now (d .entry)) explicit) b ⌝ }
 {
     let whole = standings::whole(d);
-    let position = us(d, explicit, 4, whole, POSITION) as u8;
+    let position = sent_at(d, explicit, 4, whole, POSITION).number as u8;
     let polarity = polarity_or(d, explicit, b.polarity);
     let old = b.picture;
-    let image = image_in(d, explicit);
     let picture = Picture(picture_after(next, image, old.0));
     ImageBox {
         position: position,

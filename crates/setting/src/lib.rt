@@ -1,4 +1,5 @@
 // Setting: N-SET decided, checks 6, 8 and 9 and what is stored.
+use boxes::Image;
 use instances::Whom;
 use rules::Core;
 use rules::Film;
@@ -23,6 +24,7 @@ ghost use Rattle.rules.specs.Sound.{coreSound};
 ghost use Rattle.rules.specs.Attributes.{listingOf, us, attributeRules, sessionStandings, imageIn};
 ghost use Rattle.rules.specs.Effects.{sessionSet, filmAt, withFilm, filmSet, withBoxes, boxSet};
 ghost use Rattle.rules.specs.Checks.{boxRules, imageNote, setPlan, planOf};
+ghost use Rattle.boxes.specs.Images.{ImageRead};
 ghost use Rattle.instances.specs.Meant.{instanceMeant};
 ghost use Rattle.instances.specs.There.{There};
 ghost use Rattle.verdicts.specs.Verdicts.{noteOf, Decides};
@@ -126,11 +128,12 @@ fn box_broken(k: Core, d: &[u8], explicit: bool, i: usize) -> u16
     let film = film_at(k, i);
     let layout = film.layout;
     let count = distinct::box_count(layout) as usize;
-    let first = boxes::box_broken(count, d, explicit);
+    let image = boxes::image_in(d, explicit);
+    let first = boxes::box_broken(count, d, explicit, image);
     if first != 0 {
         return first;
     }
-    if !boxes::is_fill(boxes::image_in(d, explicit)) {
+    if !boxes::is_fill(image) {
         return 0;
     }
     let numbers = k.numbers;
@@ -141,8 +144,8 @@ fn box_broken(k: Core, d: &[u8], explicit: bool, i: usize) -> u16
 }
 
 // A picture number is used only where the box is filled.
-fn box_set(k: Core, d: &[u8], explicit: bool, i: usize, j: usize) -> Core
-    requires { ⌜ Ready k × (i < length (filmsOf (k .shelf))) × (j < 36) × (us (listingOf (now d) explicit) 0x2020_0010 < 256) × PictureLeft k (listingOf (now d) explicit) ⌝ }
+fn box_set(k: Core, d: &[u8], explicit: bool, image: Image, i: usize, j: usize) -> Core
+    requires { ⌜ Ready k × (i < length (filmsOf (k .shelf))) × (j < 36) × (us (listingOf (now d) explicit) 0x2020_0010 < 256) × PictureLeft k (listingOf (now d) explicit) × ImageRead (now d) explicit image ⌝ }
     ensures { λ r. ⌜ r ≡ boxSet k i j (listingOf (now (d .entry)) explicit) ⌝ }
 {
     let film = film_at(k, i);
@@ -150,20 +153,19 @@ fn box_set(k: Core, d: &[u8], explicit: bool, i: usize, j: usize) -> Core
     let old = box_at(places, j);
     let numbers = k.numbers;
     let after = shelves::picture_used(numbers);
-    if boxes::is_fill(boxes::image_in(d, explicit)) {
-        let full = boxes::box_with(numbers.picture as u32, d, explicit, old);
+    if boxes::is_fill(image) {
+        let full = boxes::box_with(numbers.picture as u32, d, explicit, image, old);
         return with_film(k, i, with_box(film, j, full), after);
     }
-    let other = boxes::box_with(0, d, explicit, old);
+    let other = boxes::box_with(0, d, explicit, image, old);
     with_film(k, i, with_box(film, j, other), numbers)
 }
 
 // Where the pixels of the picture lie, for the host.
-fn image_notice(k: Core, d: &[u8], explicit: bool) -> Notice
-    requires { ⌜ PictureLeft k (listingOf (now d) explicit) × (length (now d) ≤ 16777216) ⌝ }
+fn image_notice(k: Core, d: &[u8], explicit: bool, image: Image) -> Notice
+    requires { ⌜ PictureLeft k (listingOf (now d) explicit) × (length (now d) ≤ 16777216) × ImageRead (now d) explicit image ⌝ }
     ensures { λ r. ⌜ noteOf r ≡ imageNote k (imageIn (listingOf (now (d .entry)) explicit)) ⌝ }
 {
-    let image = boxes::image_in(d, explicit);
     if !boxes::is_fill(image) {
         return Notice {
             kind: 0,
@@ -201,8 +203,9 @@ fn box_stored(k: Core, d: &[u8], explicit: bool, i: usize, j: usize, name: Name)
     requires { ⌜ Ready k × (i < length (filmsOf (k .shelf))) × (j < boxCount (filmAt k i .layout)) × (firstBroken (boxRules k i (listingOf (now d) explicit)) ≡ 0) × (length (now d) ≤ 16777216) ⌝ }
     ensures { λ r. ⌜ Stores k name r (λ uid. setPlan k (theBox i j) uid (listingOf (now (d .entry)) explicit) .done) ⌝ }
 {
-    let core = box_set(k, d, explicit, i, j);
-    let notice = image_notice(k, d, explicit);
+    let image = boxes::image_in(d, explicit);
+    let core = box_set(k, d, explicit, image, i, j);
+    let notice = image_notice(k, d, explicit, image);
     Verdict {
         done: true,
         status: 0,

@@ -8,13 +8,12 @@ use Rattle.boxes.proofs.box_broken.Tie as tie
 returns : tie.Need-returns
 returns c =
     c .status-of .ensures
-    ∙ rw (c .before .worse2 .ensures, c .before .before .worse .ensures, c .before .before .before .sequence-worst .ensures, c .before .before .before .before .image-in .ensures .0, c .before .before .before .before .before .polarity-severity .ensures, c .before .before .before .before .before .before .position-severity .ensures) (box-status (c .before .before .before .before .before .before .before .before .args .boxes) (listingOf (c .before .before .before .before .before .before .before .before .args .d .now) (c .before .before .before .before .before .before .before .before .args .explicit)))
+    ∙ rw (c .before .worse2 .ensures, c .before .before .worse .ensures, c .before .before .before .sequence-worst .ensures, c .before .before .before .before .before .before .before .pre .0, c .before .before .before .before .polarity-severity .ensures, c .before .before .before .before .before .position-severity .ensures) (box-status (c .before .before .before .before .before .before .before .args .boxes) (listingOf (c .before .before .before .before .before .before .before .args .d .now) (c .before .before .before .before .before .before .before .args .explicit)))
 
 pub box-broken-spec : {M : Type 1} → statement M
 box-broken-spec =
     tie.close
     (tie.spec
-    (λ c κs. search needs)
     (λ c κs. search needs)
     (λ c κs. search needs)
     (λ c κs. search needs)

@@ -1,6 +1,8 @@
 use Prim.Native.Nat.{_<_}
+use mathlib.Core.Path.{ap, _∙_}
 use native.Mathlib.Omega.{arith}
-use Rattle.rules.specs.Attributes.{boxWith}
+use Rattle.rules.specs.Attributes.{boxWith, us, pictureAfter}
+use Rattle.boxes.specs.Images.{listing}
 use Rattle.boxes.proofs.Laws.{picture-meant}
 use borrow.Author.Needs.{needs}
 use Rattle.boxes.proofs.box_with.Statement.{statement}
@@ -8,14 +10,17 @@ use Rattle.boxes.proofs.box_with.Tie as tie
 
 cast-position : tie.Need-cast-position
 cast-position c =
-    let h : c .us .result < 256 = rw (c .us .ensures .0, c .before .whole .ensures .0) (c .before .before .before .pre) in
+    let h : c .before .sent-at .result .number < 256 = rw (c .before .sent-at .ensures .2, c .before .before .whole .ensures .0) (c .before .before .before .before .pre .0) in
     omega (arith, h)
 
 returns : tie.Need-returns
 unfolding boxWith
-returns c = rw (c .before .before .before .before .us .ensures .0, c .before .before .before .before .before .whole .ensures .0, c .before .before .before .polarity-or .ensures, c .picture-after .ensures, picture-meant (c .before .before .before .before .before .before .before .args .d .now) (c .before .before .before .before .before .before .before .args .explicit), c .before .image-in .ensures .0)
+returns c = let a = c .before .before .before .before .before .before .before .args in
+    let position = c .before .before .before .before .sent-at .ensures .2 ∙ ap (λ i. us (listing (a .d .now) (a .explicit) 4 i) 0x2020_0010) (c .before .before .before .before .before .whole .ensures .0) in
+    let picture = c .picture-after .ensures ∙ picture-meant (a .d .now) (a .explicit) (a .next) (a .image) (a .b .picture .0) ∙ ap (λ i. pictureAfter (a .next) i (a .b .picture .0)) (c .before .before .before .before .before .before .before .pre .1 .0) in
+    rw (position, c .before .before .polarity-or .ensures, picture)
 
 pub box-with-spec : {M : Type 1} → statement M
 box-with-spec =
     tie.close
-    (tie.spec (λ c κs. search needs) (λ c κs. search needs) cast-position (λ c κs. search needs) (λ c κs. search needs) (λ c κs. search needs) returns)
+    (tie.spec (λ c κs. search needs) (λ c κs. search needs) cast-position (λ c κs. search needs) (λ c κs. search needs) returns)

@@ -4,13 +4,13 @@ use Rattle.boxes.proofs.depth_is.Statement.{statement}
 use Rattle.boxes.proofs.depth_is.Tie as tie
 
 returns : tie.Need-returns
-returns c = simp (← (c .before .us .ensures .0), ne-eqb _ _ (c .if1 .taken))
+returns c = simp (← (c .before .before .sent-at .ensures .2), ne-eqb _ _ (c .if1 .taken))
 
 returns-2 : tie.Need-returns-2
-returns-2 c = simp (← (c .before .before .before .us .ensures .0), eq-eqb _ _ (c .before .before .if1 .left), ← (c .before .us2 .ensures .0), ne-eqb _ _ (c .if2 .taken))
+returns-2 c = simp (← (c .before .before .before .before .before .sent-at .ensures .2), eq-eqb _ _ (c .before .before .before .if1 .left), ← (c .before .before .sent-at2 .ensures .2), ne-eqb _ _ (c .if2 .taken))
 
 returns-3 : tie.Need-returns-3
-returns-3 c = simp (← (c .before .before .before .before .us .ensures .0), eq-eqb _ _ (c .before .before .before .if1 .left), ← (c .before .before .us2 .ensures .0), eq-eqb _ _ (c .before .if2 .left), ← (c .us3 .ensures .0))
+returns-3 c = simp (← (c .before .before .before .before .before .before .before .sent-at .ensures .2), eq-eqb _ _ (c .before .before .before .before .before .if1 .left), ← (c .before .before .before .before .sent-at2 .ensures .2), eq-eqb _ _ (c .before .before .if2 .left), ← (c .before .sent-at3 .ensures .2))
 
 pub depth-is-spec : {M : Type 1} → statement M
 depth-is-spec =

@@ -1,5 +1,5 @@
 use Prim.Native.Nat.{ℕ}
-use mathlib.Core.Path.{refl, sym, _∙_}
+use mathlib.Core.Path.{sym, _∙_}
 use Rattle.rules.specs.Attributes.{depthAllowed}
 use Rattle.boxes.specs.Images.{listing}
 use Rattle.boxes.proofs.Laws.{number-by}
@@ -8,9 +8,10 @@ use Rattle.boxes.proofs.depth_severity.Statement.{statement}
 use Rattle.boxes.proofs.depth_severity.Tie as tie
 
 returns : tie.Need-returns
-returns c =
-    let l = (listing (c .before .before .before .args .d .now) (c .before .before .before .args .explicit) 3 (c .before .before .before .args .inside)) in
-    c .us-severity .ensures ∙ number-by (λ (n : ℕ). depthAllowed l) l (c .before .before .before .args .tag) _ _ refl (sym (c .before .depth-allowed .ensures))
+returns c = let a = c .before .before .before .args in
+    let l = listing (a .d .now) (a .explicit) 3 (a .inside) in
+    let n = c .before .sent-at .ensures in
+    c .us-severity .ensures ∙ number-by (λ (n : ℕ). depthAllowed l) l (a .tag) _ _ _ _ (n .0) (n .1) (n .2) (sym (c .before .before .before .pre .2))
 
 pub depth-severity-spec : {M : Type 1} → statement M
 depth-severity-spec = tie.close (tie.spec (λ c κs. search needs) (λ c κs. search needs) returns)

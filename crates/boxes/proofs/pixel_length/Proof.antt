@@ -6,19 +6,19 @@ use Rattle.boxes.proofs.pixel_length.Statement.{statement}
 use Rattle.boxes.proofs.pixel_length.Tie as tie
 
 mul-result : tie.Need-mul-result
-mul-result c = omega (arith, area-fits _ _ (c .before .before .before .us .ensures .1) (c .before .before .us2 .ensures .1))
+mul-result c = omega (arith, area-fits _ _ (c .before .before .before .before .sent-at .ensures .3) (c .before .before .sent-at2 .ensures .3))
 
 returns : tie.Need-returns
-returns c = rw (c .before .before .before .us .ensures .0, c .before .before .us2 .ensures .0, sym (c .before .is-depth8 .ensures) ∙ c .if1 .taken) (omega arith)
+returns c = rw (c .before .before .before .before .sent-at .ensures .2, c .before .before .sent-at2 .ensures .2, sym (c .before .before .before .before .before .before .pre .2) ∙ c .if1 .taken) (omega arith)
 
 mul-result-2 : tie.Need-mul-result-2
-mul-result-2 c = omega (arith, area-fits _ _ (c .before .before .before .us .ensures .1) (c .before .before .us2 .ensures .1))
+mul-result-2 c = omega (arith, area-fits _ _ (c .before .before .before .before .sent-at .ensures .3) (c .before .before .sent-at2 .ensures .3))
 
 mul-result-3 : tie.Need-mul-result-3
-mul-result-3 c = omega (arith, area-fits _ _ (c .before .before .before .us .ensures .1) (c .before .before .us2 .ensures .1))
+mul-result-3 c = omega (arith, area-fits _ _ (c .before .before .before .before .sent-at .ensures .3) (c .before .before .sent-at2 .ensures .3))
 
 returns-2 : tie.Need-returns-2
-returns-2 c = rw (c .before .before .before .us .ensures .0, c .before .before .us2 .ensures .0, sym (c .before .is-depth8 .ensures) ∙ c .if1 .left)
+returns-2 c = rw (c .before .before .before .before .sent-at .ensures .2, c .before .before .sent-at2 .ensures .2, sym (c .before .before .before .before .before .before .pre .2) ∙ c .if1 .left)
 
 pub pixel-length-spec : {M : Type 1} → statement M
 pixel-length-spec =
@@ -28,7 +28,6 @@ pixel-length-spec =
     (λ c. search needs)
     (λ c κs. search needs)
     (λ c. search needs)
-    (λ c κs. search needs)
     mul-result
     returns
     mul-result-2

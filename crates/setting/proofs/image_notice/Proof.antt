@@ -8,20 +8,27 @@ use Rattle.setting.proofs.image_notice.Statement.{statement}
 use Rattle.setting.proofs.image_notice.Tie as tie
 
 returns : tie.Need-returns
-returns c = let a = c .before .before .before .before .args in rw (fill-by (a .d .now) (a .explicit) (c .before .before .image-in .result) (c .before .is-fill .result) (c .before .before .image-in .ensures .0) (c .before .is-fill .ensures) ∙ not-true (c .before .is-fill .result) (c .if1 .taken))
+returns c = let a = c .before .before .before .args in
+    let fills = c .before .is-fill in
+    rw (fill-by (a .d .now) (a .explicit) (a .image) (fills .result) (c .before .before .before .pre .2 .0) (fills .ensures) ∙ not-true (fills .result) (c .if1 .taken))
 
 cast-t9 : tie.Need-cast-t9
-cast-t9 c = let a = c .before .before .before .before .before .before .before .args in let h = c .before .before .before .before .before .before .before .pre .0 (fill-by (a .d .now) (a .explicit) (c .before .before .before .before .before .image-in .result) (c .before .before .before .before .is-fill .result) (c .before .before .before .before .before .image-in .ensures .0) (c .before .before .before .before .is-fill .ensures) ∙ not-false (c .before .before .before .before .is-fill .result) (c .before .before .before .if1 .left)) in search needs
+cast-t9 c = let a = c .before .before .before .before .before .before .args in
+    let p = c .before .before .before .before .before .before .pre in
+    let fills = c .before .before .before .before .is-fill in
+    let h = p .0 (fill-by (a .d .now) (a .explicit) (a .image) (fills .result) (p .2 .0) (fills .ensures) ∙ not-false (fills .result) (c .before .before .before .if1 .left)) in search needs
 
 returns-2 : tie.Need-returns-2
-returns-2 c = let a = c .before .before .before .before .before .before .before .before .before .args in
-    note-fills (a .k) (imageIn (listingOf (a .d .now) (a .explicit))) (c .before .before .before .pixels .result) (fill-by (a .d .now) (a .explicit) (c .before .before .before .before .before .before .before .image-in .result) (c .before .before .before .before .before .before .is-fill .result) (c .before .before .before .before .before .before .before .image-in .ensures .0) (c .before .before .before .before .before .before .is-fill .ensures) ∙ not-false (c .before .before .before .before .before .before .is-fill .result) (c .before .before .before .before .before .if1 .left)) (c .before .before .before .pixels .ensures .0 ∙ ap (λ image. attributes.pixels image) (c .before .before .before .before .before .before .before .image-in .ensures .0))
+returns-2 c = let a = c .before .before .before .before .before .before .before .before .args in
+    let e = c .before .before .before .before .before .before .before .before .pre .2 .0 in
+    let fills = c .before .before .before .before .before .before .is-fill in
+    let at = c .before .before .before .pixels in
+    note-fills (a .k) (imageIn (listingOf (a .d .now) (a .explicit))) (at .result) (fill-by (a .d .now) (a .explicit) (a .image) (fills .result) e (fills .ensures) ∙ not-false (fills .result) (c .before .before .before .before .before .if1 .left)) (at .ensures .0 ∙ ap (λ image. attributes.pixels image) e)
 
 pub image-notice-spec : {M : Type 1} → statement M
 image-notice-spec =
     tie.close
     (tie.spec
-    (λ c κs. search needs)
     (λ c κs. search needs)
     returns
     (λ c κs. search needs)
