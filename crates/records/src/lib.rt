@@ -363,14 +363,16 @@ fn films_at(s: &[u8], p: usize) -> [Film; 8]
     requires { ⌜ p + 2392 ≤ length (now s) ⌝ }
     ensures { λ r. ⌜ r ≡ array 8 filmFormat .read (now (s .entry)) p ⌝ }
 {
-    let mut xs = [film_at(s, p); 8];
-    let mut i = 0;
-    while i < 8 {
-        let x = film_at(s, p + i * 299);
-        xs[i] = x;
-        i += 1;
-    }
-    xs
+    [
+        film_at(s, p),
+        film_at(s, p + 299),
+        film_at(s, p + 598),
+        film_at(s, p + 897),
+        film_at(s, p + 1196),
+        film_at(s, p + 1495),
+        film_at(s, p + 1794),
+        film_at(s, p + 2093),
+    ]
 }
 
 fn put_films(s: &mut [u8], p: usize, a: [Film; 8])
@@ -471,14 +473,24 @@ fn entries_at(s: &[u8], p: usize) -> [Entry; 16]
     requires { ⌜ p + 3456 ≤ length (now s) ⌝ }
     ensures { λ r. ⌜ r ≡ array 16 entryFormat .read (now (s .entry)) p ⌝ }
 {
-    let mut xs = [entry_at(s, p); 16];
-    let mut i = 0;
-    while i < 16 {
-        let x = entry_at(s, p + i * 216);
-        xs[i] = x;
-        i += 1;
-    }
-    xs
+    [
+        entry_at(s, p),
+        entry_at(s, p + 216),
+        entry_at(s, p + 432),
+        entry_at(s, p + 648),
+        entry_at(s, p + 864),
+        entry_at(s, p + 1080),
+        entry_at(s, p + 1296),
+        entry_at(s, p + 1512),
+        entry_at(s, p + 1728),
+        entry_at(s, p + 1944),
+        entry_at(s, p + 2160),
+        entry_at(s, p + 2376),
+        entry_at(s, p + 2592),
+        entry_at(s, p + 2808),
+        entry_at(s, p + 3024),
+        entry_at(s, p + 3240),
+    ]
 }
 
 fn put_entries(s: &mut [u8], p: usize, a: [Entry; 16])

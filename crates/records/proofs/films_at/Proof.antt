@@ -1,49 +1,42 @@
-use Prim.Native.Nat.{_-_, _≤_}
-use mathlib.Core.Path.{_≡_, refl}
 use denote.Ref.{now}
-use lib.ListN.{length, take}
-use Rattle.fields.specs.Format.{array}
-use Rattle.fields.proofs.Turns.{read-none, read-turn, read-done}
+use native.Mathlib.Omega.{arith}
 use Rattle.rules.specs.Layout.{filmFormat, nameFormat, serialFormat, layoutFormat, boxFormat, pictureFormat}
+use Rattle.records.proofs.Arrays.{read-first, read-next}
 use borrow.Author.Needs.{needs}
 use Rattle.records.proofs.films_at.Statement.{statement}
 use Rattle.records.proofs.films_at.Tie as tie
 
-abbrev Inv-loop : tie.InvT-loop
-Inv-loop s p xs₀ i₀ xs i = (i ≤ 8) × (length xs ≡ 8) × (take i xs ≡ array i filmFormat .read s p)
-
-abbrev μ-loop : tie.MeasureT-loop
-μ-loop s p xs₀ i₀ xs i = 8 - i
-
-loop-holds : tie.Need-loop-holds Inv-loop μ-loop
-loop-holds c = let a = c .before .before .args in
-    (search needs, refl, read-none filmFormat (now (a .s)) (a .p))
-
-loop-again : tie.Need-loop-again Inv-loop μ-loop
+returns : tie.Need-returns
 unfolding filmFormat nameFormat serialFormat layoutFormat boxFormat pictureFormat
-loop-again c = let o = c .before .before .loop in
-    let a = c .before .before .before .before .before .args in
-    (search needs, search needs, read-turn filmFormat (now (a .s)) (a .p) (o .i) (o .xs) (c .film-at2 .result) (search needs) (c .film-at2 .ensures) (o .inv .2))
-
-returns : tie.Need-returns Inv-loop μ-loop
-returns c = let o = c .before .loop in
-    let a = c .before .before .before .before .args in
-    read-done filmFormat (now (a .s)) (a .p) 8 (o .i) (o .xs) (o .inv .1) (c .loop-test .left) (o .inv .0) (o .inv .2)
+returns c = let a = c .before .before .before .before .before .before .before .before .before .args in
+    let s = now (a .s) in
+    let p = a .p in
+    let x1 = read-first filmFormat s p _ (c .before .before .before .before .before .before .before .film-at .ensures) in
+    let x2 = read-next filmFormat s p 1 _ _ (c .before .before .before .before .before .before .film-at2 .ensures) x1 in
+    let x3 = read-next filmFormat s p 2 _ _ (c .before .before .before .before .before .film-at3 .ensures) x2 in
+    let x4 = read-next filmFormat s p 3 _ _ (c .before .before .before .before .film-at4 .ensures) x3 in
+    let x5 = read-next filmFormat s p 4 _ _ (c .before .before .before .film-at5 .ensures) x4 in
+    let x6 = read-next filmFormat s p 5 _ _ (c .before .before .film-at6 .ensures) x5 in
+    let x7 = read-next filmFormat s p 6 _ _ (c .before .film-at7 .ensures) x6 in
+    read-next filmFormat s p 7 _ _ (c .film-at8 .ensures) x7
 
 pub films-at-spec : {M : Type 1} → statement M
 films-at-spec =
     tie.close
     (tie.spec
-    Inv-loop
-    μ-loop
     (λ c κs. search needs)
-    loop-holds
-    (λ c. search needs)
     (λ c. search needs)
     (λ c κs. search needs)
     (λ c. search needs)
+    (λ c κs. search needs)
     (λ c. search needs)
-    (λ c. search needs)
-    (λ c. search needs)
-    loop-again
+    (λ c κs. search needs)
+    (λ c. omega (arith, c .before .before .before .before .before .pre, c .before .before .before .before .before .good))
+    (λ c κs. omega (arith, c .before .before .before .before .before .pre))
+    (λ c. omega (arith, c .before .before .before .before .before .before .pre, c .before .before .before .before .before .before .good))
+    (λ c κs. omega (arith, c .before .before .before .before .before .before .pre))
+    (λ c. omega (arith, c .before .before .before .before .before .before .before .pre, c .before .before .before .before .before .before .before .good))
+    (λ c κs. omega (arith, c .before .before .before .before .before .before .before .pre))
+    (λ c. omega (arith, c .before .before .before .before .before .before .before .before .pre, c .before .before .before .before .before .before .before .before .good))
+    (λ c κs. omega (arith, c .before .before .before .before .before .before .before .before .pre))
     returns)
