@@ -10,7 +10,7 @@ use Rattle.rules.specs.declared.Session.{Session}
 use Rattle.rules.specs.declared.Film.{Film}
 use Rattle.rules.specs.Lists.{every, apart}
 use Rattle.rules.specs.Sound.{Serials, overlap, ownSerial, serialsOf, sentText, sameText, uidsApart}
-use Rattle.distinct.specs.Apart.{boxSerials, freeOfFilm, serialsFree, filmApart, serialsApart, filmText, textFree, textsApart}
+use Rattle.distinct.specs.Apart.{boxSerials, freeOfFilm, serialsFree, filmApart, filmDiffers, filmsDiffer, serialsApart, filmText, textFree, textsApart}
 use Rattle.distinct.proofs.Steps.{Stepwise}
 
 regroup : (a b c d : Bool) → both (both a b) (both c d) ≡ both (both a (both b c)) d
@@ -33,7 +33,27 @@ pub texts-apart : Stepwise textsApart (λ f films. textFree (f .name) films)
 unfolding textsApart textFree apart
 texts-apart = record { none = refl; more = λ f films. refl }
 
+both-none : (b : Bool) → both b false ≡ false
+both-none true = refl
+both-none false = refl
+
+-- what is asked of one film, and of those behind it, in four tests
+shuffle : (a b c d p q r s : Bool) → both (both (both a p) (both b q)) (both (both c r) (both d s)) ≡ both (both a (both b (both c d))) (both (both p q) (both r s))
+shuffle false b c d p q r s = refl
+shuffle true false c d p q r s = rw (both-none p)
+shuffle true true false d p q r s = both-none (both p q)
+shuffle true true true false p q r s = rw (both-none r) (both-none (both p q))
+shuffle true true true true p q r s = refl
+
+pub films-differ : (name : Name) → Stepwise (filmsDiffer name) (filmDiffers name)
+unfolding filmsDiffer
+films-differ name = record {
+  none = rw (serials-free (ownSerial name) .none, serials-apart .none, text-free name .none, texts-apart .none);
+  more = λ f films. rw (serials-free (ownSerial name) .more f films, serials-apart .more f films, text-free name .more f films, texts-apart .more f films)
+      (shuffle (freeOfFilm (ownSerial name) f) (filmApart f films) (not (sameText (sentText name) (filmText f))) (textFree (f .name) films) (serialsFree (ownSerial name) films) (serialsApart films) (textFree name films) (textsApart films));
+}
+
 -- "UIDs differ": the session's own from the films', and the films' from one another
-pub uids-apart : (s : Session) (films : List Film) → uidsApart s films ≡ both (both (serialsFree (ownSerial (s .name)) films) (serialsApart films)) (both (textFree (s .name) films) (textsApart films))
-unfolding uidsApart serialsFree serialsApart textFree textsApart apart
+pub uids-apart : (s : Session) (films : List Film) → uidsApart s films ≡ filmsDiffer (s .name) films
+unfolding filmsDiffer uidsApart serialsFree serialsApart textFree textsApart apart
 uids-apart s films = refl

@@ -39,3 +39,12 @@ textFree name films = every (λ t. not (sameText (sentText name) t)) (map filmTe
 
 unfoldable pub textsApart : List Film → Bool
 textsApart films = apart sameText (map filmText films)
+
+-- a film has neither the UID of this name nor one of these films, and its own differ from one another
+abbrev pub filmDiffers : Name → Film → List Film → Bool
+filmDiffers name f films =
+    both (freeOfFilm (ownSerial name) f) (both (filmApart f films) (both (not (sameText (sentText name) (filmText f))) (textFree (f .name) films)))
+
+-- the films' UIDs differ from this name's and from one another
+unfoldable pub filmsDiffer : Name → List Film → Bool
+filmsDiffer name films = both (both (serialsFree (ownSerial name) films) (serialsApart films)) (both (textFree name films) (textsApart films))

@@ -12,7 +12,7 @@ ghost use Rattle.choice.specs.Pick.{pick};
 ghost use Rattle.rules.specs.Lists.{sum};
 ghost use Rattle.rules.specs.Records.{boxCount, filmsOf};
 ghost use Rattle.rules.specs.Sound.{overlap, sentText, sameText, uidsApart};
-ghost use Rattle.distinct.specs.Apart.{serials, freeOfFilm, serialsFree, filmApart, serialsApart, textFree, textsApart};
+ghost use Rattle.distinct.specs.Apart.{serials, freeOfFilm, serialsFree, filmApart, textFree, filmDiffers, filmsDiffer};
 
 fn wide(b: u8) -> u64
     ensures { λ r. ⌜ (r ≡ b) × (r < 256) ⌝ }
@@ -100,7 +100,7 @@ fn free_of_film(first: u64, count: u64, film: Film) -> bool
 }
 
 // The same of the films from a place on.
-fn serials_free(first: u64, count: u64, films: [Film; 8], from: usize, n: usize) -> bool
+fn serials_free_from(first: u64, count: u64, films: [Film; 8], from: usize, n: usize) -> bool
     requires { ⌜ (first < 4294967296) × (count ≤ 1530) × (n ≤ 8) ⌝ }
     ensures { λ r. ⌜ r ≡ serialsFree (serials first count) (drop from (take n films)) ⌝ }
 {
@@ -114,6 +114,17 @@ fn serials_free(first: u64, count: u64, films: [Film; 8], from: usize, n: usize)
         i += 1;
     }
     true
+}
+
+// The same. The films are copied for the loop only where there is one to look at.
+fn serials_free(first: u64, count: u64, films: [Film; 8], from: usize, n: usize) -> bool
+    requires { ⌜ (first < 4294967296) × (count ≤ 1530) × (n ≤ 8) ⌝ }
+    ensures { λ r. ⌜ r ≡ serialsFree (serials first count) (drop from (take n films)) ⌝ }
+{
+    if n <= from {
+        return true;
+    }
+    serials_free_from(first, count, films, from, n)
 }
 
 // Whether a film's serials differ from one another and from those of the films from a place on.
@@ -138,22 +149,6 @@ fn film_serials_apart(film: Film, films: [Film; 8], from: usize, n: usize) -> bo
     serials_free(first, count, films, from, n)
 }
 
-fn films_serials_apart(films: [Film; 8], n: usize) -> bool
-    requires { ⌜ n ≤ 8 ⌝ }
-    ensures { λ r. ⌜ r ≡ serialsApart (take n films) ⌝ }
-{
-    let xs = films;
-    let mut i = 0;
-    while i < n {
-        let x = xs[i];
-        if !film_serials_apart(x, xs, i + 1, n) {
-            return false;
-        }
-        i += 1;
-    }
-    true
-}
-
 // Whether two names were sent with the same text.
 fn same_text(a: Name, b: Name) -> bool
     ensures { λ r. ⌜ r ≡ sameText (sentText a) (sentText b) ⌝ }
@@ -169,7 +164,7 @@ fn same_text(a: Name, b: Name) -> bool
 }
 
 // Whether none of the films from a place on has the text of this name.
-fn text_free(name: Name, films: [Film; 8], from: usize, n: usize) -> bool
+fn text_free_from(name: Name, films: [Film; 8], from: usize, n: usize) -> bool
     requires { ⌜ n ≤ 8 ⌝ }
     ensures { λ r. ⌜ r ≡ textFree name (drop from (take n films)) ⌝ }
 {
@@ -186,16 +181,47 @@ fn text_free(name: Name, films: [Film; 8], from: usize, n: usize) -> bool
     true
 }
 
-fn films_texts_apart(films: [Film; 8], n: usize) -> bool
+// The same, as serials_free.
+fn text_free(name: Name, films: [Film; 8], from: usize, n: usize) -> bool
     requires { ⌜ n ≤ 8 ⌝ }
-    ensures { λ r. ⌜ r ≡ textsApart (take n films) ⌝ }
+    ensures { λ r. ⌜ r ≡ textFree name (drop from (take n films)) ⌝ }
+{
+    if n <= from {
+        return true;
+    }
+    text_free_from(name, films, from, n)
+}
+
+// Whether a film's UIDs differ from one another, from this name, and from those of the films from a place on.
+fn film_apart(name: Name, film: Film, films: [Film; 8], from: usize, n: usize) -> bool
+    requires { ⌜ n ≤ 8 ⌝ }
+    ensures { λ r. ⌜ r ≡ filmDiffers name film (drop from (take n films)) ⌝ }
+{
+    let made = name.made;
+    let own = made.0 as u64;
+    if !free_of_film(own, own_count(own), film) {
+        return false;
+    }
+    if !film_serials_apart(film, films, from, n) {
+        return false;
+    }
+    let other = film.name;
+    if same_text(name, other) {
+        return false;
+    }
+    text_free(other, films, from, n)
+}
+
+// One loop for serials and texts: for each, the films would be copied once more.
+fn films_apart(name: Name, films: [Film; 8], n: usize) -> bool
+    requires { ⌜ n ≤ 8 ⌝ }
+    ensures { λ r. ⌜ r ≡ filmsDiffer name (take n films) ⌝ }
 {
     let xs = films;
     let mut i = 0;
     while i < n {
         let x = xs[i];
-        let name = x.name;
-        if !text_free(name, xs, i + 1, n) {
+        if !film_apart(name, x, xs, i + 1, n) {
             return false;
         }
         i += 1;
@@ -209,16 +235,5 @@ pub fn uids_apart(session: Session, shelf: Shelf) -> bool
     let films = shelf.films;
     let n = films_within(films, shelf.count as usize);
     let name = session.name;
-    let made = name.made;
-    let own = made.0 as u64;
-    if !serials_free(own, own_count(own), films, 0, n) {
-        return false;
-    }
-    if !films_serials_apart(films, n) {
-        return false;
-    }
-    if !text_free(name, films, 0, n) {
-        return false;
-    }
-    films_texts_apart(films, n)
+    films_apart(name, films, n)
 }
