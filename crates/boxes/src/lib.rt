@@ -12,7 +12,7 @@ ghost use lib.ListN.{length};
 ghost use Rattle.choice.specs.Pick.{both};
 ghost use Rattle.choice.specs.Rules.{firstBroken};
 ghost use Rattle.rules.specs.Values.{photometrics, polarities, blank, codeIn};
-ghost use Rattle.rules.specs.Attributes.{attributeRules, optional, number, code, listingOf, look, valueOf, orKept, us, depth8, depthAllowed, pixelLength, imageStandings, sequenceStandings, imageIn, boxStandings, boxWith, pixels};
+ghost use Rattle.rules.specs.Attributes.{attributeRules, optional, number, code, listingOf, look, valueOf, orKept, us, depth8, depthAllowed, pixelLength, imageStandings, sequenceStandings, boxStandings, boxWith, pixels};
 ghost use Rattle.standings.specs.Severity.{kindOf, severity, severityBy, worst};
 ghost use Rattle.boxes.specs.Images.{listing, imageMeant, ImageWithin, ImageRead, itemsImage, pixelStanding, withExtents, withDepths, pictureGiven, fillsBox};
 
@@ -48,7 +48,7 @@ pub enum Image {
     Fills(Inside),
 }
 
-// A number of two bytes as it was sent: what stands under its tag, as an attribute, how many bytes it has, and the number.
+// A number of two bytes as it was sent: how its attribute stands, how many bytes it has, and the number.
 struct Sent {
     kind: u8,
     size: usize,

@@ -181,7 +181,7 @@ fn text_free_from(name: Name, films: [Film; 8], from: usize, n: usize) -> bool
     true
 }
 
-// The same, as serials_free.
+// The same. The films are copied for the loop only where there is one to look at.
 fn text_free(name: Name, films: [Film; 8], from: usize, n: usize) -> bool
     requires { ⌜ n ≤ 8 ⌝ }
     ensures { λ r. ⌜ r ≡ textFree name (drop from (take n films)) ⌝ }
