@@ -11,7 +11,7 @@ use lib.ListN.{length, take}
 use borrow.Author.Tests.{ltb-false, not-true, not-false}
 use Rattle.choice.specs.Pick.{not}
 use Rattle.choice.specs.Rules.{_⇒_, firstBroken}
-use Rattle.octets.specs.Octets.{laid, Bytes}
+use Rattle.octets.specs.Octets.{Bytes}
 use Rattle.strike.specs.Service.{DataSet, noData, whole, tooLong, Result, fails, does}
 use Rattle.strike.specs.Machine.{idle, headerWrong, asks, collect, laidBy}
 use Rattle.rules.specs.declared.Core.{Core}
@@ -45,6 +45,19 @@ none-short false false true d e h = absurd (omega (arith, h))
 none-short false false false true e h = absurd (omega (arith, h))
 none-short false false false false e h = (refl, refl, refl)
 
+-- no rule of a feed is broken
+pub record Passed (l : Lent) (s : State) : Type 0 where
+  pub bytes : Bytes (l .records)
+  pub long : recordsSize ≤ length (l .records)
+  pub same : unpack (l .records) ≡ s
+  pub order : sound (unpack (l .records)) ≡ true
+  pub rules : firstBroken (feedRules (unpack (l .records) .core) (lengths l)) ≡ 0
+
+-- and the fragment's header is right
+pub record Right (l : Lent) (fragment : List ℕ) (s : State) : Type 0 where
+  pub passed : Passed l s
+  pub header : headerWrong (unpack (l .records) .core .opened .context) fragment ≡ false
+
 module _ (l : Lent) (fragment : List ℕ) (s : State) (t : Bool) (read : s ≡ stateFormat .read (l .records) 0) (told : t ≡ sound s) (long : recordsSize ≤ length (l .records)) where
   same : unpack (l .records) ≡ s
   unfolding unpack
@@ -56,92 +69,99 @@ module _ (l : Lent) (fragment : List ℕ) (s : State) (t : Bool) (read : s ≡ s
   pub fed-unsound : bool.not t ≡ true → nothingFed l 1 ≡ feeds l fragment
   fed-unsound e = feeds-unsound l fragment long (in-order ∙ not-true t e)
 
-  module _ (kept : bool.not t ≡ false) where
+  module _ (kept : bool.not t ≡ false) (n : ℕ) (told-n : n ≡ firstBroken (feedRules (s .core) (lengths l))) where
     order : sound (unpack (l .records)) ≡ true
     order = in-order ∙ not-false t kept
 
-    pub fed-refused : (n : ℕ) → n ≡ firstBroken (feedRules (s .core) (lengths l)) → (n ≡ 0 → ⊥) → nothingFed l n ≡ feeds l fragment
-    fed-refused n e f = feeds-refused l fragment long order n (e ∙ ap (λ (x : State). firstBroken (feedRules (x .core) (lengths l))) (sym same)) f
+    broken : n ≡ firstBroken (feedRules (unpack (l .records) .core) (lengths l))
+    broken = told-n ∙ ap (λ (x : State). firstBroken (feedRules (x .core) (lengths l))) (sym same)
 
-    pub ready : Bytes (l .records) → Ready (s .core)
-    ready o =
-        let right = sound-parts (unpack (l .records)) order .0 in
-        let sized = unpacked-sized (l .records) o in
-        subst (λ (x : State). Ready (x .core)) same (right, tidy-shelf (unpack (l .records) .core) right sized, tidy-queue (unpack (l .records) .core) right sized)
+    pub fed-refused : (n ≡ 0 → ⊥) → nothingFed l n ≡ feeds l fragment
+    fed-refused = feeds-refused l fragment long order n broken
 
-    module _ (n : ℕ) (en : n ≡ firstBroken (feedRules (s .core) (lengths l))) (z : n ≡ 0) where
-      passed : firstBroken (feedRules (unpack (l .records) .core) (lengths l)) ≡ 0
-      passed = ap (λ (x : State). firstBroken (feedRules (x .core) (lengths l))) same ∙ (sym en ∙ z)
+    pub passed-by : Bytes (l .records) → n ≡ 0 → Passed l s
+    passed-by o z = record { bytes = o; long = long; same = same; order = order; rules = sym broken ∙ z }
 
-      pub message-short : length (l .message) ≤ 16777216
-      message-short = feeds-room l fragment passed .1
+module _ {l : Lent} {s : State} (passed : Passed l s) where
+  pub ready : Ready (s .core)
+  ready =
+      let right = sound-parts (unpack (l .records)) (passed .order) .0 in
+      let sized = unpacked-sized (l .records) (passed .bytes) in
+      subst (λ (x : State). Ready (x .core)) (passed .same) (right, tidy-shelf (unpack (l .records) .core) right sized, tidy-queue (unpack (l .records) .core) right sized)
 
-      pub room-for : RoomFor (l .records) (l .command) (l .dataSet) (l .report)
-      room-for =
-          let right = none-short (messageWrong (s .core) (length (l .message))) (ltb (length (l .command)) commandRoom) (ltb (length (l .dataSet)) dataRoom) (ltb (length (l .report)) reportRoom) (not (isOpen (s .core))) (sym en ∙ z) in
-          (long, ltb-false (length (l .command)) commandRoom (right .0), ltb-false (length (l .dataSet)) dataRoom (right .1), ltb-false (length (l .report)) reportRoom (right .2))
+  pub message-short : length (l .message) ≤ 16777216
+  message-short = feeds-room l [] (passed .rules) .1
 
-      module _ (w : Bool) (ew : w ≡ headerWrong (s .core .opened .context) fragment) where
-        header : headerWrong (unpack (l .records) .core .opened .context) fragment ≡ w
-        header = ap (λ (x : State). headerWrong (x .core .opened .context) fragment) same ∙ sym ew
+  pub room-for : RoomFor (l .records) (l .command) (l .dataSet) (l .report)
+  room-for =
+      let right = none-short (messageWrong (unpack (l .records) .core) (length (l .message))) (ltb (length (l .command)) commandRoom) (ltb (length (l .dataSet)) dataRoom) (ltb (length (l .report)) reportRoom) (not (isOpen (unpack (l .records) .core))) (passed .rules) in
+      (passed .long, ltb-false (length (l .command)) commandRoom (right .0), ltb-false (length (l .dataSet)) dataRoom (right .1), ltb-false (length (l .report)) reportRoom (right .2))
 
-        pub fed-wrong : w ≡ true → (k : Core) → k ≡ closed (s .core) → (b : List ℕ) → b ≡ written (record { core = k; input = idle }) (l .records)
-            → record { number = 5; records = b; message = l .message; command = l .command; dataSet = l .dataSet; report = l .report } ≡ feeds l fragment
-        fed-wrong f k ek b eb =
-            feeds-wrong l fragment long order passed (header ∙ f) b
-            (eb ∙ ap (λ (x : Core). written (record { core = x; input = idle }) (l .records)) (ek ∙ ap (λ (x : State). closed (x .core)) (sym same)))
+  module _ (fragment : List ℕ) (w : Bool) (told : w ≡ headerWrong (s .core .opened .context) fragment) where
+    header : headerWrong (unpack (l .records) .core .opened .context) fragment ≡ w
+    header = ap (λ (x : State). headerWrong (x .core .opened .context) fragment) (passed .same) ∙ sym told
 
-        module _ (f : w ≡ false) (o : Bytes (l .records)) where
-          pub collect-ready : Filled (s .input) × (s .input .got ≤ length (l .message)) × (length (l .message) < 4294967296) × (6 ≤ length fragment)
-          collect-ready =
-              let r = subst (λ (x : State). Filled (x .input) × (x .input .got ≤ length (l .message)) × (length (l .message) < 4294967296)) same (feeds-ready l fragment o order passed) in
-              (r .0, r .1, r .2, header-room (s .core .opened .context) fragment (sym ew ∙ f))
+    pub fed-wrong : w ≡ true → (k : Core) → k ≡ closed (s .core) → (b : List ℕ) → b ≡ written (record { core = k; input = idle }) (l .records)
+        → record { number = 5; records = b; message = l .message; command = l .command; dataSet = l .dataSet; report = l .report } ≡ feeds l fragment
+    fed-wrong f k ek b eb =
+        feeds-wrong l fragment (passed .long) (passed .order) (passed .rules) (header ∙ f) b
+        (eb ∙ ap (λ (x : Core). written (record { core = x; input = idle }) (l .records)) (ek ∙ ap (λ (x : State). closed (x .core)) (sym (passed .same))))
 
-          module _ (r : Collected) (m : List ℕ) (er : r ≡ collectedOf (collect reading (length (l .message)) (inputIn (s .input) (l .message)) (fragmentOf fragment)))
-              (em : m ≡ laidBy (length (l .message)) (inputIn (s .input) (l .message)) (fragmentOf fragment) (l .message)) where
-            right : headerWrong (unpack (l .records) .core .opened .context) fragment ≡ false
-            right = header ∙ f
+    pub right-by : w ≡ false → Right l fragment s
+    right-by f = record { passed = passed; header = header ∙ f }
 
-            got : unpack (l .records) .input .got ≤ length (l .message)
-            got = feeds-ready l fragment o order passed .1
+module _ {l : Lent} {fragment : List ℕ} {s : State} (right : Right l fragment s) where
+  abbrev passed : Passed l s
+  passed = right .passed
 
-            told-r : r ≡ collectedOf (collect reading (length (l .message)) (inputIn (unpack (l .records) .input) (l .message)) (fragmentOf fragment))
-            told-r = er ∙ ap (λ (x : State). collectedOf (collect reading (length (l .message)) (inputIn (x .input) (l .message)) (fragmentOf fragment))) (sym same)
+  pub collect-ready : Filled (s .input) × (s .input .got ≤ length (l .message)) × (length (l .message) < 4294967296) × (6 ≤ length fragment)
+  collect-ready =
+      let r = subst (λ (x : State). Filled (x .input) × (x .input .got ≤ length (l .message)) × (length (l .message) < 4294967296)) (passed .same) (feeds-ready l fragment (passed .bytes) (passed .order) (passed .rules)) in
+      (r .0, r .1, r .2, header-room (unpack (l .records) .core .opened .context) fragment (right .header))
 
-            told-m : m ≡ laidBy (length (l .message)) (inputIn (unpack (l .records) .input) (l .message)) (fragmentOf fragment) (l .message)
-            told-m = em ∙ ap (λ (x : State). laidBy (length (l .message)) (inputIn (x .input) (l .message)) (fragmentOf fragment) (l .message)) (sym same)
+  module _ (r : Collected) (m : List ℕ)
+      (told : (r ≡ collectedOf (collect reading (length (l .message)) (inputIn (s .input) (l .message)) (fragmentOf fragment)))
+      × (m ≡ laidBy (length (l .message)) (inputIn (s .input) (l .message)) (fragmentOf fragment) (l .message))) where
+    got : unpack (l .records) .input .got ≤ length (l .message)
+    got = feeds-ready l fragment (passed .bytes) (passed .order) (passed .rules) .1
 
-            abbrev Only : ℕ → Type 0
-            Only number = (b : List ℕ) → b ≡ inputWritten (r .input) (l .records) → record { number = number; records = b; message = m; command = l .command; dataSet = l .dataSet; report = l .report } ≡ feeds l fragment
+    told-r : r ≡ collectedOf (collect reading (length (l .message)) (inputIn (unpack (l .records) .input) (l .message)) (fragmentOf fragment))
+    told-r = told .0 ∙ ap (λ (x : State). collectedOf (collect reading (length (l .message)) (inputIn (x .input) (l .message)) (fragmentOf fragment))) (sym (passed .same))
 
-            pub fed-ignored : r .answer ≡ Ignored → Only 18
-            fed-ignored = feeds-ignored l fragment long order passed right r m got told-r told-m
+    told-m : m ≡ laidBy (length (l .message)) (inputIn (unpack (l .records) .input) (l .message)) (fragmentOf fragment) (l .message)
+    told-m = told .1 ∙ ap (λ (x : State). laidBy (length (l .message)) (inputIn (x .input) (l .message)) (fragmentOf fragment) (l .message)) (sym (passed .same))
 
-            pub fed-waits : r .answer ≡ Wait → Only 16
-            fed-waits = feeds-waits l fragment long order passed right r m got told-r told-m
+    abbrev Only : ℕ → Type 0
+    Only number = (b : List ℕ) → b ≡ inputWritten (r .input) (l .records) → record { number = number; records = b; message = m; command = l .command; dataSet = l .dataSet; report = l .report } ≡ feeds l fragment
 
-            pub fed-dropped : r .answer ≡ Dropped → Only 17
-            fed-dropped = feeds-dropped l fragment long order passed right r m got told-r told-m
+    pub fed-ignored : r .answer ≡ Ignored → Only 18
+    fed-ignored = feeds-ignored l fragment (passed .long) (passed .order) (passed .rules) (right .header) r m got told-r told-m
 
-            module _ (b command dataSet report : List ℕ) where
-              abbrev Left : Result Core Reply → Type 0
-              Left x = Leaves x (l .records) b (l .command) command (l .dataSet) dataSet (l .report) report
+    pub fed-waits : r .answer ≡ Wait → Only 16
+    fed-waits = feeds-waits l fragment (passed .long) (passed .order) (passed .rules) (right .header) r m got told-r told-m
 
-              abbrev Answered : Type 0
-              Answered = record { number = 19; records = b; message = m; command = command; dataSet = dataSet; report = report } ≡ feeds l fragment
+    pub fed-dropped : r .answer ≡ Dropped → Only 17
+    fed-dropped = feeds-dropped l fragment (passed .long) (passed .order) (passed .rules) (right .header) r m got told-r told-m
 
-              by-result : (d : DataSet) → meantBy (r .answer) (r .input) m ≡ asks (commandHeld (r .input)) d → (x : Result Core Reply) → decide (unpack (l .records) .core) (commandHeld (r .input)) d ≡ x → Left x → Answered
-              by-result d a (fails reply) e h = feeds-failed l fragment long order passed right r m got told-r told-m d a reply b command dataSet report (h .1) (h .2) (h .3) e (h .0)
-              by-result d a (does k reply) e h = feeds-done l fragment long order passed right r m got told-r told-m d a reply b command dataSet report (h .1) (h .2) (h .3) k e (h .0)
+    module _ (b command dataSet report : List ℕ) where
+      abbrev Left : Result Core Reply → Type 0
+      Left x = Leaves x (l .records) b (l .command) command (l .dataSet) dataSet (l .report) report
 
-              fed-asked : (d : DataSet) → meantBy (r .answer) (r .input) m ≡ asks (commandHeld (r .input)) d → Left (decide (s .core) (commandHeld (r .input)) d) → Answered
-              fed-asked d a h = by-result d a (decide (s .core) (commandHeld (r .input)) d) (ap (λ (x : State). decide (x .core) (commandHeld (r .input)) d) same) h
+      abbrev Answered : Type 0
+      Answered = record { number = 19; records = b; message = m; command = command; dataSet = dataSet; report = report } ≡ feeds l fragment
 
-              pub fed-alone : r .answer ≡ AsksAlone → Left (decide (s .core) (commandHeld (r .input)) noData) → Answered
-              fed-alone e h = fed-asked noData (rw e) h
+      by-result : (d : DataSet) → meantBy (r .answer) (r .input) m ≡ asks (commandHeld (r .input)) d → (x : Result Core Reply) → decide (unpack (l .records) .core) (commandHeld (r .input)) d ≡ x → Left x → Answered
+      by-result d a (fails reply) e h = feeds-failed l fragment (passed .long) (passed .order) (passed .rules) (right .header) r m got told-r told-m d a reply b command dataSet report (h .1) (h .2) (h .3) e (h .0)
+      by-result d a (does k reply) e h = feeds-done l fragment (passed .long) (passed .order) (passed .rules) (right .header) r m got told-r told-m d a reply b command dataSet report (h .1) (h .2) (h .3) k e (h .0)
 
-              pub fed-whole : r .answer ≡ AsksWhole → (d : List ℕ) → d ≡ take (r .input .got) m → Left (decide (s .core) (commandHeld (r .input)) (whole d)) → Answered
-              fed-whole e d ed h = fed-asked (whole d) (rw (e, ed)) h
+      fed-asked : (d : DataSet) → meantBy (r .answer) (r .input) m ≡ asks (commandHeld (r .input)) d → Left (decide (s .core) (commandHeld (r .input)) d) → Answered
+      fed-asked d a h = by-result d a (decide (s .core) (commandHeld (r .input)) d) (ap (λ (x : State). decide (x .core) (commandHeld (r .input)) d) (passed .same)) h
 
-              pub fed-too-long : r .answer ≡ AsksTooLong → Left (decide (s .core) (commandHeld (r .input)) tooLong) → Answered
-              fed-too-long e h = fed-asked tooLong (rw e) h
+      pub fed-alone : r .answer ≡ AsksAlone → Left (decide (s .core) (commandHeld (r .input)) noData) → Answered
+      fed-alone e h = fed-asked noData (rw e) h
+
+      pub fed-whole : r .answer ≡ AsksWhole → (d : List ℕ) → d ≡ take (r .input .got) m → Left (decide (s .core) (commandHeld (r .input)) (whole d)) → Answered
+      fed-whole e d ed h = fed-asked (whole d) (rw (e, ed)) h
+
+      pub fed-too-long : r .answer ≡ AsksTooLong → Left (decide (s .core) (commandHeld (r .input)) tooLong) → Answered
+      fed-too-long e h = fed-asked tooLong (rw e) h
