@@ -131,6 +131,30 @@ def uneven():
     return c
 
 
+def near_uids():
+    """R-2: films whose UIDs differ in the last or the first character alone, and what is near them or a made UID."""
+    c = Damaged(random.Random(10))
+    root = "1.2.826.0.1.3680043.10.1234.5.6.7.8.9.10"
+    middle = ".3" * 31
+    c.start(root, 99, 1)
+    c.open(1, IMPLICIT, 4096)
+    c.create_session()
+    films = [c.create_film(2, 1, uid) for uid in ("1" + middle + "4", "1" + middle + "5", "2" + middle + "5")]
+    films.append(c.create_film(6, 6))
+    made = films[3].boxes
+    for uid in ("1" + middle + "6", "3" + middle + "5", "1" + middle, middle[1:] + "5"):
+        c.fails(0x0112, c.request(N_DELETE, FILM, uid))
+    for uid in (made[-1][:-1], made[-1] + "0", root + ".1" + made[-1][-3:], root + "0." + made[-1][-3:],
+                "2" + made[-1][1:], root + made[-1][-3:], root, root + ".0"):
+        c.fails(0x0112, c.request(N_SET, BOX, uid))
+    c.delete_film(films[1])
+    for film in (films[0], films[2]):
+        fill(c, film, 1, 1)
+    fill(c, films[3], 35, 36)
+    c.print_session()
+    return c
+
+
 def last_numbers():
     """The last serial and the last picture number, and then none."""
     c = Damaged(random.Random(6))
@@ -204,6 +228,7 @@ def kept_traces():
     yield "full-queue", full_queue()
     yield "colliding-positions", colliding()
     yield "uneven-films", uneven()
+    yield "near-uids", near_uids()
     yield "last-numbers", last_numbers()
     yield "nine-films", nine_films()
     yield "wild-1", wild_trace(21)
