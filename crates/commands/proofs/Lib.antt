@@ -4,3 +4,4 @@ mod Laws
 mod Gathering
 mod Held
 mod WellFormed
+mod Slots
