@@ -93,7 +93,7 @@ enum {
     GATEWAY_REPORT_FILMS = 8,   /* how many films were queued */
     GATEWAY_REPORT_PICTURE = 8, /* the picture's number, */
     GATEWAY_REPORT_PLACE = 12,  /* the place of its pixels in the message buffer, */
-    GATEWAY_REPORT_LENGTH = 16  /* and how many bytes they have */
+    GATEWAY_REPORT_LENGTH = 16  /* and how many bytes they have, padding left out */
 };
 
 /* Ends the association: session, films, boxes and a message half collected go, the queue and the next numbers stay. */

@@ -265,9 +265,16 @@ static void read_image_item(struct findings *f, const struct part *item,
     allow(f, eight || twelve);
     if (!mandatory(f, find_value(item, TAG(0x7FE0, 0x0010), ALL_COUNT, &v)))
         return;
-    allow(f, v.length == rows * columns * (eight ? 1 : 2));
+    uint64_t pixels = rows * columns * (eight ? 1 : 2);
+    uint64_t length = pixels;
+    if (pixels % 2 == 1) {
+        /* "the length must then be the product plus one" */
+        COVER("Pixel Data: the product is odd");
+        length++;
+    }
+    allow(f, v.length == length);
     image->place = v.place;
-    image->length = v.length;
+    image->length = (size_t)pixels;
 }
 
 static void read_image_sequence(struct findings *f, const struct part *list,

@@ -72,7 +72,7 @@ enum image { KEEP, ERASE, FILL };
 struct image_request {
     enum image what;
     size_t place; /* of the pixels in the message buffer */
-    size_t length;
+    size_t length; /* theirs, without a byte of padding */
 };
 uint16_t read_box(const struct part *list, unsigned positions, struct box *box,
                   struct image_request *image);

@@ -53,6 +53,13 @@ class Request:
         return f"response {status:04x} {command(rows).hex()} {hexed(data)} {note}"
 
 
+def pixel_bytes(picture_item):
+    """How many bytes of a picture are pixels and not padding: the note covers these alone (R-3)."""
+    values = {tag: value for tag, _, value in picture_item}
+    rows, columns, bits = (int.from_bytes(values[tag], "little") for tag in (0x00280010, 0x00280011, 0x00280100))
+    return rows * columns * bits // 8
+
+
 class Console:
     def __init__(self, rng):
         self.rng = rng
@@ -268,7 +275,9 @@ class Console:
         self.ask(request, data, request.response(0, film.uid))
 
     def picture_item(self, rows, columns, wide, pixels=None, extra=()):
+        """R-3: pixels of an odd number of bytes have a byte of padding behind them, any byte."""
         size = rows * columns * (2 if wide else 1)
+        size += size % 2
         bits = (16, 12, 11) if wide else (8, 8, 7)
         pixel_vr = self.rng.choice(("OB", "OW"))
         return sorted([
@@ -284,8 +293,6 @@ class Console:
         rng = self.rng
         wide = rng.random() < 0.5
         rows, columns = rng.randint(1, 6), rng.randint(1, 6)
-        if not wide and rows * columns % 2:
-            columns += 1
         return self.picture_item(rows, columns, wide, None, extra)
 
     def fill_box(self, film, i, place, picture_item, extra=()):
@@ -300,7 +307,10 @@ class Console:
         head = header(0x7FE00010, vr, len(pixels), self.syntax)
         at = data.index(head + pixels) + len(head)
         film.places[i], film.pictures[i] = place, self.picture
-        note = f"picture {self.picture} {at} {len(pixels)}"
+        size = pixel_bytes(picture_item)
+        if size % 2:
+            self.count("odd picture")
+        note = f"picture {self.picture} {at} {size}"
         self.picture += 1
         self.ask(request, data, request.response(0, film.boxes[i], b"", note))
 

@@ -374,10 +374,18 @@ NUMBERS_WRONG = {
 }
 
 
+def odd_length(c, place, picture, size):
+    """A box's data set whose Pixel Data has an odd length, which the reader refuses, be it that of the pixels too."""
+    inside = elements(without(picture, 0x7FE00010), c.syntax) + header(0x7FE00010, "OW", size, c.syntax) + bytes(size)
+    loose = c.rng.random() < 0.5
+    return elements([place], c.syntax) + sequence(0x20200110, item(inside, loose), c.syntax, loose)
+
+
 @damage
 def box_values(c):
     film, i = c.box()
     picture = c.picture_item(2, 3, False)
+    odd = c.picture_item(3, 5, False)
     wide = c.picture_item(2, 3, True)
     place = (0x20200010, "US", u16(film.places[i]))
 
@@ -411,8 +419,15 @@ def box_values(c):
     image(0x0121, [changed(picture, 0x00280004, b"  ")], "empty 00280004")
     for size in c.some((2, 4, 8, 12, 100)):
         image(0x0106, [changed(picture, 0x7FE00010, bytes(size))], "value of 7FE00010")
-    image(0x0106, [c.picture_item(3, 5, False, bytes(16))], "odd picture, padded")
-    image(0x0106, [c.picture_item(0xFFFF, 0xFFFF, True, bytes(2))], "value of 7FE00010")
+    for size in c.some((2, 14, 18, 30, 32)):
+        image(0x0106, [changed(odd, 0x7FE00010, bytes(size))], "length of an odd picture")
+    for size in c.some((28, 32)):
+        image(0x0106, [c.picture_item(3, 5, True, bytes(size))], "value of 7FE00010")
+    for item_rows, size in c.some(((odd, 15), (odd, 17), (picture, 5), (picture, 7))):
+        data = odd_length(c, place, item_rows, size)
+        c.fails(0x0110, c.request(N_SET, BOX, film.boxes[i]), data, what="odd length of 7FE00010")
+    for deep in c.some((False, True)):
+        image(0x0106, [c.picture_item(0xFFFF, 0xFFFF, deep, bytes(2))], "value of 7FE00010")
     if c.length > 20000:        # 46341 * 46341 * 2 is 9266 in 32 bits
         image(0x0106, [c.picture_item(46341, 46341, True, bytes(9266))], "value of 7FE00010")
     image(0x0106, [changed(wide, 0x00280100, u16(8))], "bits mixed")
@@ -421,9 +436,10 @@ def box_values(c):
     box(0x0121, [(0x20200010, "US", u16(99)), (0x20200110, "SQ", [changed(picture, 0x00280102, b"")])],
         "empty inside before value")
     box(0x0121, [(0x20200010, "US", b""), (0x20200110, "SQ", [picture, picture])], "empty before value")
-    if c.picture < 2 ** 32:
-        c.count("pixels of a sound picture")
-        c.fill_box(film, i, film.places[i], picture, [(0x20200020, "CS", b"")])
+    for taken in c.some((picture, odd)):
+        if c.picture < 2 ** 32:
+            c.count("pixels of a sound picture")
+            c.fill_box(film, i, film.places[i], taken, [(0x20200020, "CS", b"")])
 
 
 # ---- unreadable commands ----

@@ -155,6 +155,32 @@ def near_uids():
     return c
 
 
+def odd_pictures():
+    """R-3: 3 by 5 and 1 by 1 at 8 bits have a byte of padding, which may hold anything; at 12 bits no length is odd."""
+    c = Damaged(random.Random(11))
+    c.start("1.9.7", 1, 1)
+    for syntax in (IMPLICIT, EXPLICIT):
+        c.open(1, syntax, 4096)
+        c.create_session()
+        film = c.create_film(3, 2)
+        pixels = bytes(range(1, 16))
+        pictures = [c.picture_item(3, 5, False, pixels + b"\0"), c.picture_item(3, 5, False, pixels + b"\xff"),
+                    c.picture_item(1, 1, False, b"\x80\0"), c.picture_item(3, 5, True, pixels * 2)]
+        for i, picture in enumerate(pictures):
+            c.fill_box(film, i, i + 1, picture)
+        place = (0x20200010, "US", u16(5))
+        wrong = [c.encode([place, (0x20200110, "SQ", [c.picture_item(rows, columns, wide, bytes(size))])])
+                 for rows, columns, wide, size in
+                 ((3, 5, False, 14), (3, 5, False, 18), (1, 1, False, 4), (3, 5, True, 28), (3, 5, True, 32))]
+        for data in wrong:
+            c.fails(0x0106, c.request(N_SET, BOX, film.boxes[4]), data)
+        c.fails(0x0110, c.request(N_SET, BOX, film.boxes[4]), damages.odd_length(c, place, pictures[0], 15))
+        c.print_film(film)
+        c.take()
+        c.close()
+    return c
+
+
 def last_numbers():
     """The last serial and the last picture number, and then none."""
     c = Damaged(random.Random(6))
@@ -229,6 +255,7 @@ def kept_traces():
     yield "colliding-positions", colliding()
     yield "uneven-films", uneven()
     yield "near-uids", near_uids()
+    yield "odd-pictures", odd_pictures()
     yield "last-numbers", last_numbers()
     yield "nine-films", nine_films()
     yield "wild-1", wild_trace(21)

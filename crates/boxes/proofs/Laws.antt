@@ -1,17 +1,18 @@
 -- The standings of an image's attributes, as numbers.
 -- Assumes nothing.
-use Prim.Native.Nat.{ℕ, _+_, _*_, _<_, _≤_}
+use Prim.Native.Nat.{ℕ, _+_, _-_, _*_, _<_, _≤_}
 use mathlib.Core.Path.{_≡_, refl, sym, ap, subst, _∙_}
 use mathlib.Core.Bool.{Bool}
 use mathlib.Core.List.{List, [], _∷_}
 use native.Mathlib.Omega.{arith}
 use native.Mathlib.Nat.{mul-le-mul-right}
 use lib.Dec.{eqb, leb}
-use lib.ListN.{length}
+use lib.ListN.{length, drop, length-take}
 use borrow.Author.Tests.{le-ltb, leb-true}
 use Rattle.choice.specs.Pick.{pick, both}
 use Rattle.choice.specs.Rules.{firstBroken}
 use Rattle.choice.proofs.Picks.{both-true}
+use Rattle.headers.specs.declared.Part.{Part}
 use Rattle.headers.specs.declared.Inside.{Inside}
 use Rattle.elements.specs.declared.Found.{Found}
 use Rattle.elements.specs.declared.Found.the-variants.{Sequence}
@@ -23,7 +24,8 @@ use Rattle.elements.proofs.Within.{FoundIn, ItemsIn}
 use Rattle.elements.proofs.Laws.{find-within, items-within}
 use Rattle.rules.specs.Lists.{any}
 use Rattle.rules.specs.Values.{noBytes, isUS, usIn, polarities}
-use Rattle.rules.specs.Attributes.{Listing, wrong, attributeRules, listingOf, look, valueOf, us, number, code, optional, orKept, imageStandings, sequenceStandings, boxStandings, imageIn, imageFound, imageOf, pictureAfter, isFill}
+use Rattle.rules.specs.Commands.{placed, bytesOf}
+use Rattle.rules.specs.Attributes.{Listing, wrong, attributeRules, listingOf, look, valueOf, us, number, code, optional, orKept, imageStandings, sequenceStandings, boxStandings, imageIn, imageFound, imageOf, fills, pictureAfter, isFill, pixelBytes, pixels}
 use Rattle.standings.specs.Severity.{kindOf, severity, severityBy, givenBy, worse, worst, statusOf}
 use Rattle.standings.proofs.Laws.{mandatory-severity, given-by, worst-none, worst-cons, worst-status, first-fine, fine-allowed}
 use Rattle.boxes.specs.declared.Image.{Image}
@@ -131,3 +133,17 @@ module _ (d : List ℕ) (explicit : Bool) where
   fills-meant Erases = refl
   fills-meant TooMany = refl
   fills-meant (Fills inside) = refl
+
+-- The pixels.
+
+part-short : (d : List ℕ) (p : Part) → length (bytesOf d p) ≤ p .stop - p .from
+unfolding bytesOf
+part-short d p = omega (arith, length-take (p .stop - p .from) (drop (p .from) d))
+
+-- the pixels begin where Pixel Data does, and end within it
+pub pixels-in : (item : Listing) (at : Part) (bytes : ℕ) → at ≡ placed (look item 0x7FE0_0010) → bytes ≡ pixelBytes item → pixelBytes item ≤ length (valueOf item 0x7FE0_0010)
+    → at .from ≤ at .stop → at .stop ≤ length (item .bytes)
+    → (record { from = at .from; stop = at .from + bytes } ≡ pixels (fills item)) × (at .from ≤ at .from + bytes) × (at .from + bytes ≤ length (item .bytes))
+pixels-in item at bytes e f fit h g =
+    let most : bytes ≤ length (bytesOf (item .bytes) at) = rw (f, e) fit in
+    (rw (e, f), omega arith, omega (arith, most, part-short (item .bytes) at, h, g))

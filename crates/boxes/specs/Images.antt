@@ -10,7 +10,7 @@ use Rattle.elements.specs.declared.Items.{Items}
 use Rattle.elements.specs.declared.Items.the-variants.{Empty, One, Several}
 use Rattle.rules.specs.Values.{noBytes, photometrics}
 use Rattle.rules.specs.Attributes as attributes
-use Rattle.rules.specs.Attributes.{Listing, Standing, listingOf, onlyItem, look, mandatory, number, code, depthAllowed, pixelLength, imageIn}
+use Rattle.rules.specs.Attributes.{Listing, Standing, listingOf, onlyItem, look, valueOf, mandatory, number, code, depthAllowed, pixelBytes, pixelLength, imageIn}
 use Rattle.standings.specs.Severity.{severity, worse}
 use Rattle.boxes.specs.declared.Image.{Image}
 use Rattle.boxes.specs.declared.Image.the-variants.{Keeps, Erases, TooMany, Fills}
@@ -35,6 +35,13 @@ ImageWithin n (Fills inside) = (inside .from ≤ inside .stop) × (inside .stop 
 -- the image is what the data set gives
 abbrev pub ImageRead : List ℕ → Bool → Image → Type 0
 ImageRead d explicit image = (imageMeant d explicit image ≡ imageIn (listingOf d explicit)) × ImageWithin (length d) image
+
+-- Pixel Data is no shorter than the pixels, as check 8 finds
+abbrev pub PixelsFit : attributes.Image → Type 0
+PixelsFit attributes.keeps = Unit {0}
+PixelsFit attributes.erases = Unit {0}
+PixelsFit attributes.tooMany = Unit {0}
+PixelsFit (attributes.fills item) = pixelBytes item ≤ length (valueOf item 0x7FE0_0010)
 
 abbrev pub itemsImage : Items → Image
 itemsImage Empty = Erases

@@ -12,9 +12,10 @@ ghost use lib.ListN.{length};
 ghost use Rattle.choice.specs.Pick.{both};
 ghost use Rattle.choice.specs.Rules.{firstBroken};
 ghost use Rattle.rules.specs.Values.{photometrics, polarities, blank, codeIn};
-ghost use Rattle.rules.specs.Attributes.{attributeRules, optional, number, code, listingOf, look, valueOf, orKept, us, depth8, depthAllowed, pixelLength, imageStandings, sequenceStandings, boxStandings, boxWith, pixels};
+ghost use Rattle.rules.specs.Attributes.{attributeRules, optional, number, code, listingOf, look, valueOf, orKept, us, depth8, depthAllowed, pixelBytes, pixelLength, imageStandings, sequenceStandings, boxStandings, boxWith, pixels};
 ghost use Rattle.standings.specs.Severity.{kindOf, severity, severityBy, worst};
-ghost use Rattle.boxes.specs.Images.{listing, imageMeant, ImageWithin, ImageRead, itemsImage, pixelStanding, withExtents, withDepths, pictureGiven, fillsBox};
+ghost use Rattle.boxes.specs.declared.Image.the-variants.{Fills};
+ghost use Rattle.boxes.specs.Images.{listing, imageMeant, ImageWithin, ImageRead, PixelsFit, itemsImage, pixelStanding, withExtents, withDepths, pictureGiven, fillsBox};
 
 const SAMPLES: usize = 0x0028_0002;
 
@@ -155,10 +156,10 @@ fn photometric_severity(d: &[u8], explicit: bool, inside: Inside) -> u8
     standings::severity(kind, texts::is_blank(v), values::photometric_in(v) < 2)
 }
 
-// "length rows × columns × 1 or 2"
-fn pixel_length(d: &[u8], explicit: bool, inside: Inside, eight: bool) -> usize
+// "rows × columns × 1 or 2"
+fn pixel_bytes(d: &[u8], explicit: bool, inside: Inside, eight: bool) -> usize
     requires { ⌜ (inside .from ≤ inside .stop) × (inside .stop ≤ length (now d)) × (eight ≡ depth8 (listing (now d) explicit 3 inside)) ⌝ }
-    ensures { λ r. ⌜ r ≡ pixelLength (listing (now (d .entry)) explicit 3 inside) ⌝ }
+    ensures { λ r. ⌜ (r ≡ pixelBytes (listing (now (d .entry)) explicit 3 inside)) × (r < 8589934592) ⌝ }
 {
     let rows = sent_at(d, explicit, 3, inside, ROWS).number as usize;
     let columns = sent_at(d, explicit, 3, inside, COLUMNS).number as usize;
@@ -166,6 +167,15 @@ fn pixel_length(d: &[u8], explicit: bool, inside: Inside, eight: bool) -> usize
         return rows * columns;
     }
     rows * columns * 2
+}
+
+// R-3: a byte of padding makes it even.
+fn pixel_length(d: &[u8], explicit: bool, inside: Inside, eight: bool) -> usize
+    requires { ⌜ (inside .from ≤ inside .stop) × (inside .stop ≤ length (now d)) × (eight ≡ depth8 (listing (now d) explicit 3 inside)) ⌝ }
+    ensures { λ r. ⌜ r ≡ pixelLength (listing (now (d .entry)) explicit 3 inside) ⌝ }
+{
+    let bytes = pixel_bytes(d, explicit, inside, eight);
+    bytes + bytes % 2
 }
 
 fn pixels_severity(d: &[u8], explicit: bool, inside: Inside, eight: bool) -> u8
@@ -340,15 +350,30 @@ pub fn is_fill(image: Image) -> bool
     }
 }
 
+// Where the pixels of an item lie, without the padding.
+fn item_pixels(d: &[u8], explicit: bool, inside: Inside) -> Part
+    requires { ⌜ (inside .from ≤ inside .stop) × (inside .stop ≤ length (now d)) × PixelsFit (imageMeant (now d) explicit (Fills inside)) ⌝ }
+    ensures { λ r. ⌜ (r ≡ pixels (imageMeant (now (d .entry)) explicit (Fills inside))) × (r .from ≤ r .stop) × (r .stop ≤ length (now (d .entry))) ⌝ }
+{
+    let eight = is_depth8(d, explicit, inside);
+    let bytes = pixel_bytes(d, explicit, inside, eight);
+    let at = standings::look(d, explicit, 3, inside, PIXEL_DATA);
+    let place = at.value;
+    Part {
+        from: place.from,
+        stop: place.from + bytes,
+    }
+}
+
 // Where the pixels lie in the message buffer.
 pub fn pixels(d: &[u8], explicit: bool, image: Image) -> Part
-    requires { ⌜ ImageWithin (length (now d)) image ⌝ }
+    requires { ⌜ ImageWithin (length (now d)) image × PixelsFit (imageMeant (now d) explicit image) ⌝ }
     ensures { λ r. ⌜ (r ≡ pixels (imageMeant (now (d .entry)) explicit image)) × (r .from ≤ r .stop) × (r .stop ≤ length (now (d .entry))) ⌝ }
 {
     match image {
         Image::Keeps => Part { from: 0, stop: 0 },
         Image::Erases => Part { from: 0, stop: 0 },
         Image::TooMany => Part { from: 0, stop: 0 },
-        Image::Fills(inside) => standings::look(d, explicit, 3, inside, PIXEL_DATA).value,
+        Image::Fills(inside) => item_pixels(d, explicit, inside),
     }
 }

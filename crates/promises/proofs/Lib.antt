@@ -6,6 +6,7 @@ pub mod Later
 pub mod Standings
 pub mod Layouts
 pub mod Positions
+pub mod Pictures
 pub mod Instances
 pub mod NewNames
 -- The rules of the records are kept: calls, sessions, films, boxes, printing; requests, calls and runs.

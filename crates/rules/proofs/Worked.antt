@@ -15,7 +15,7 @@ use Rattle.rules.specs.Records.{noBox, noEntry, withFilms, withQueue}
 use Rattle.rules.specs.Attributes.{listingOf}
 use Rattle.rules.specs.Responses.{Note, noNote, filmsQueued, pictureAt, Reply}
 use Rattle.rules.specs.Effects.{newBox, filmAt, withBoxes}
-use Rattle.rules.proofs.Messages.{get, foreign, createBox, createSession, createLive, createFilm, setSession, setNobody, setOther, setFilm, setBox, actTwo, printSession, printFilm, deleteSession, cutShort, noFormat, emptyFormat, film23, landscape, emptyInSet, low, moved, seventh, picture, shortPicture, erased, twoItems}
+use Rattle.rules.proofs.Messages.{get, foreign, createBox, createSession, createLive, createFilm, setSession, setNobody, setOther, setFilm, setBox, actTwo, printSession, printFilm, deleteSession, cutShort, noFormat, emptyFormat, film23, landscape, emptyInSet, low, moved, seventh, picture, shortPicture, oddPicture, erased, twoItems}
 use Rattle.rules.proofs.Stage.{sessionLive, theFilm, filmLive, status, after, Example, gives, AllHold}
 use Rattle.octets.specs.Octets.{numberAt, bigNumberAt, octets, same}
 use Rattle.uids.specs.Uids.{digits, component, components, isUid, unpadded, beginsWith, lastDigits, decimal, made}
@@ -146,6 +146,9 @@ worked =
     ∷ gives (boxAfter filmLive moved ++ (boxAfter filmLive picture ++ boxAfter onePicture erased)) (3 ∷ 0 ∷ 2 ∷ 1 ∷ 2 ∷ 0 ∷ [])
     -- the note on a picture: number, place, length
     ∷ gives (noteOf (decide filmLive setBox (whole picture))) (2 ∷ 1 ∷ 124 ∷ 2 ∷ [])
+    -- R-3: fifteen pixels take 16 bytes, and the note leaves the last one out; 14 and 18 are not allowed, an odd length is not read
+    ∷ gives (noteOf (decide filmLive setBox (whole (oddPicture 16)))) (2 ∷ 1 ∷ 124 ∷ 15 ∷ [])
+    ∷ gives (status (decide filmLive setBox (whole (oddPicture 16))) ∷ status (decide filmLive setBox (whole (oddPicture 14))) ∷ status (decide filmLive setBox (whole (oddPicture 18))) ∷ status (decide filmLive setBox (whole (oddPicture 15))) ∷ []) (0x0000 ∷ 0x0106 ∷ 0x0106 ∷ 0x0110 ∷ [])
     -- a print: the queue's entry
     ∷ gives (entryAfter onePicture printFilm) (1 ∷ 0 ∷ 1 ∷ 100 ∷ 0 ∷ 1 ∷ [])
     -- a session's deletion takes its films
@@ -154,4 +157,4 @@ worked =
 
 pub worked-hold : AllHold worked
 unfolding numberAt bigNumberAt octets same digits component components isUid unpadded beginsWith lastDigits decimal made namedVr formOf implicitVr differs tagAt sizeAt vrAt lengthAt vrWrong lengthHead headAt itemHeadAt closeAt elementsFrom itemsOf findAt itemsAt walk trail listStep listFrom itemWith itemStep itemsFrom elementAt listAt itemAt dataSet padded tagOctets vrOctets headerSize plain header element written writtenItems sessionCreated newFilm filmCreated sessionSet filmSet boxSet sessionDeleted filmDeleted pictureOn entryOf entriesFor ticketAfter printed filledBoxes classOf generalRules createRules targetRules createPlan setPlan actionPlan deletePlan planOf decideRequest decide chars every any placeOf apart sum from bytesOf uidAt groupZero lengthTold wellFormed hasData requestIn understood rootOf uidOf boxCount boxesOf filmsOf shelved entriesOf queued boxUids named responseElements responseTree reply boxItems filmTree withoutLeading withoutTrailing trimmed blank withoutPlus decimalValue countIn codeIn labelAllowed standard listed numbersIn uneven countsIn spotOf sessionStandings sessionWith optionalFilm filmCreateStandings filmSetStandings filmWith layoutIn imageStandings imageIn boxStandings boxWith
-worked-hold = (refl, (refl, (refl, (refl, (refl, (refl, (refl, (refl, (refl, (refl, (refl, (refl, (refl, (refl, (refl, (refl, (refl, (refl, (refl, (refl, (refl, (refl, tt))))))))))))))))))))))
+worked-hold = (refl, (refl, (refl, (refl, (refl, (refl, (refl, (refl, (refl, (refl, (refl, (refl, (refl, (refl, (refl, (refl, (refl, (refl, (refl, (refl, (refl, (refl, (refl, (refl, tt))))))))))))))))))))))))

@@ -1,5 +1,5 @@
 -- The records: what a data set says for a session, a film and a box.
-use Prim.Native.Nat.{ℕ, _*_, _-_}
+use Prim.Native.Nat.{ℕ, _+_, _*_, _-_, _%_}
 use mathlib.Core.Bool.{Bool, true, false}
 use mathlib.Core.List.{List, [], _∷_, _++_}
 use lib.Dec.{eqb, leb, ltb}
@@ -216,9 +216,13 @@ depth16 l = both (eqb (us l 0x0028_0100) 16) (both (eqb (us l 0x0028_0101) 12) (
 abbrev pub depthAllowed : Listing → Bool
 depthAllowed l = either (depth8 l) (depth16 l)
 
--- "length rows × columns × 1 or 2"
+-- the bytes of the pixels: "rows × columns × 1 or 2"
+abbrev pub pixelBytes : Listing → ℕ
+pixelBytes l = us l 0x0028_0010 * us l 0x0028_0011 * pick (depth8 l) 1 2
+
+-- the length of Pixel Data: "where the product is odd .. the product plus one" (R-3)
 abbrev pub pixelLength : Listing → ℕ
-pixelLength l = us l 0x0028_0010 * us l 0x0028_0011 * pick (depth8 l) 1 2
+pixelLength l = pixelBytes l + pixelBytes l % 2
 
 -- "All of an item is mandatory"
 unfoldable pub imageStandings : Listing → List Standing
@@ -285,9 +289,9 @@ isFill erases = false
 isFill tooMany = false
 isFill (fills item) = true
 
--- where the pixels lie in the message buffer
+-- where the pixels lie in the message buffer, without a byte of padding (R-3)
 abbrev pub pixels : Image → Part
 pixels keeps = noPart
 pixels erases = noPart
 pixels tooMany = noPart
-pixels (fills item) = placed (look item 0x7FE0_0010)
+pixels (fills item) = record { from = placed (look item 0x7FE0_0010) .from; stop = placed (look item 0x7FE0_0010) .from + pixelBytes item }

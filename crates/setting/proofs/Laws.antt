@@ -31,10 +31,11 @@ use Rattle.rules.specs.Checks.{boxRules, setPlan, targetRules, also, imageNote,
 use Rattle.promises.proofs.ListLaws.{every-at}
 use Rattle.promises.proofs.Facts.{between-true, core-facts, numbers-facts, shelf-facts, film-facts}
 use Rattle.promises.proofs.Layouts.{boxes-most}
+use Rattle.promises.proofs.Pictures.{pixels-held}
 use Rattle.promises.proofs.Tidy.{shelf-few}
 use Rattle.boxes.proofs.Laws.{position-fits, fills-meant}
 use Rattle.boxes.specs.declared.Image as code
-use Rattle.boxes.specs.Images.{imageMeant, fillsBox}
+use Rattle.boxes.specs.Images.{imageMeant, PixelsFit, fillsBox}
 use Rattle.instances.specs.declared.Whom.{Whom}
 use Rattle.instances.specs.declared.Whom.the-variants.{Nobody, Session, Film, ImageBox}
 use Rattle.instances.specs.Meant.{instanceMeant}
@@ -42,7 +43,7 @@ use Rattle.verdicts.specs.declared.Notice.{Notice}
 use Rattle.verdicts.specs.declared.Verdict.{Verdict}
 use Rattle.verdicts.specs.Verdicts.{instanceOf, noteOf, noNewBoxes, meant, quiet, decidedBy}
 use Rattle.verdicts.proofs.Laws.{quiet-meant, plan-by-number}
-use Rattle.verdicts.proofs.Plans.{plan-kept}
+use Rattle.verdicts.proofs.Plans.{plan-kept, none-broken}
 use Rattle.setting.specs.Asked.{rulesFor, PictureLeft, Stores}
 
 -- Rules.
@@ -153,6 +154,17 @@ module _ (k : Core) (i : ℕ) (l : Listing) (sound : coreSound k ≡ true) (ther
 
   pub position-small : us l 0x2020_0010 < 256
   position-small = position-fits (boxCount (filmAt k i .layout)) l (boxes-few k i sound there) (both-kept .0)
+
+  pub pixels-fit : PixelsFit (imageIn l)
+  pixels-fit = by (imageIn l) refl
+    where
+      by : (image : Image) → imageIn l ≡ image → PixelsFit image
+      by keeps e = tt
+      by erases e = tt
+      by tooMany e = tt
+      by (fills item) e =
+          let boxes = boxCount (filmAt k i .layout) in
+          pixels-held boxes l item (none-broken (attributeRules (boxStandings boxes l)) refl (both-kept .0)) e
 
   pub picture-left : PictureLeft k l
   picture-left fill =

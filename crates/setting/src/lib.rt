@@ -24,7 +24,7 @@ ghost use Rattle.rules.specs.Sound.{coreSound};
 ghost use Rattle.rules.specs.Attributes.{listingOf, us, attributeRules, sessionStandings, imageIn};
 ghost use Rattle.rules.specs.Effects.{sessionSet, filmAt, withFilm, filmSet, withBoxes, boxSet};
 ghost use Rattle.rules.specs.Checks.{boxRules, imageNote, setPlan, planOf};
-ghost use Rattle.boxes.specs.Images.{ImageRead};
+ghost use Rattle.boxes.specs.Images.{ImageRead, PixelsFit};
 ghost use Rattle.instances.specs.Meant.{instanceMeant};
 ghost use Rattle.instances.specs.There.{There};
 ghost use Rattle.verdicts.specs.Verdicts.{noteOf, Decides};
@@ -163,7 +163,7 @@ fn box_set(k: Core, d: &[u8], explicit: bool, image: Image, i: usize, j: usize) 
 
 // Where the pixels of the picture lie, for the host.
 fn image_notice(k: Core, d: &[u8], explicit: bool, image: Image) -> Notice
-    requires { ⌜ PictureLeft k (listingOf (now d) explicit) × (length (now d) ≤ 16777216) × ImageRead (now d) explicit image ⌝ }
+    requires { ⌜ PictureLeft k (listingOf (now d) explicit) × (length (now d) ≤ 16777216) × ImageRead (now d) explicit image × PixelsFit (imageIn (listingOf (now d) explicit)) ⌝ }
     ensures { λ r. ⌜ noteOf r ≡ imageNote k (imageIn (listingOf (now (d .entry)) explicit)) ⌝ }
 {
     if !boxes::is_fill(image) {

@@ -1,12 +1,15 @@
 use mathlib.Core.Path.{subst}
 use lib.ListN.{length}
-use Rattle.boxes.specs.Images.{ImageWithin}
+use Rattle.boxes.specs.Images.{imageMeant, ImageWithin, PixelsFit}
 use borrow.Author.Needs.{needs}
 use Rattle.boxes.proofs.pixels.Statement.{statement}
 use Rattle.boxes.proofs.pixels.Tie as tie
 
-look-requires : tie.Need-look-requires
-look-requires c κs = subst (ImageWithin (length (c .before .before .before .before .args .d .now))) (c .before .image .given .1) (c .before .before .before .before .pre)
+item-pixels-requires : tie.Need-item-pixels-requires
+item-pixels-requires c κs = let s = c .before .before .before .before in
+    let e = c .before .image .given .1 in
+    let within = subst (ImageWithin (length (s .args .d .now))) e (s .pre .0) in
+    (within .0, within .1, subst (λ image. PixelsFit (imageMeant (s .args .d .now) (s .args .explicit) image)) e (s .pre .1))
 
 returns : tie.Need-returns
 returns c = (rw (c .enum-told .given .1), search needs, search needs)
@@ -18,7 +21,7 @@ returns-3 : tie.Need-returns-3
 returns-3 c = (rw (c .enum-told3 .given .1), search needs, search needs)
 
 returns-4 : tie.Need-returns-4
-returns-4 c = (rw (c .before .before .before .image .given .1) (c .before .look .ensures .1), c .before .look .ensures .2, c .before .look .ensures .3)
+returns-4 c = (rw (c .before .before .image .given .1) (c .item-pixels .ensures .0), c .item-pixels .ensures .1, c .item-pixels .ensures .2)
 
 pub pixels-spec : {M : Type 1} → statement M
 pixels-spec =
@@ -28,7 +31,7 @@ pixels-spec =
     (λ c. search needs)
     (λ c. search needs)
     (λ c. search needs)
-    look-requires
+    item-pixels-requires
     returns
     returns-2
     returns-3

@@ -4,7 +4,7 @@ use mathlib.Core.Option.{some}
 use mathlib.Core.List.{[]}
 use Rattle.rules.specs.Attributes.{listingOf, imageIn}
 use Rattle.rules.specs.Checks.{setPlan, imageNote, answered}
-use Rattle.setting.proofs.Laws.{boxes-few, position-small, picture-left, set-meant}
+use Rattle.setting.proofs.Laws.{boxes-few, position-small, picture-left, pixels-fit, set-meant}
 use borrow.Author.Needs.{needs}
 use Rattle.setting.proofs.box_stored.Statement.{statement}
 use Rattle.setting.proofs.box_stored.Tie as tie
@@ -18,7 +18,8 @@ box-set-requires c κs = let a = c .before .before .args in
 image-notice-requires : tie.Need-image-notice-requires
 image-notice-requires c κs = let a = c .before .before .before .args in
     let p = c .before .before .before .pre in
-    (picture-left (a .k) (a .i) (listingOf (a .d .now) (a .explicit)) (p .0 .0) (p .1) (p .3), p .4, c .before .image-in .ensures)
+    let l = listingOf (a .d .now) (a .explicit) in
+    (picture-left (a .k) (a .i) l (p .0 .0) (p .1) (p .3), p .4, c .before .image-in .ensures, pixels-fit (a .k) (a .i) l (p .0 .0) (p .1) (p .3))
 
 returns : tie.Need-returns
 unfolding setPlan

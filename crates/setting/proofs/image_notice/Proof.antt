@@ -1,8 +1,9 @@
-use mathlib.Core.Path.{ap, _∙_}
+use mathlib.Core.Path.{sym, ap, subst, _∙_}
 use borrow.Author.Tests.{not-true, not-false}
 use borrow.Author.Needs.{needs}
 use Rattle.rules.specs.Attributes.{listingOf, imageIn}
 use Rattle.rules.specs.Attributes as attributes
+use Rattle.boxes.specs.Images.{PixelsFit}
 use Rattle.setting.proofs.Laws.{fill-by, note-fills}
 use Rattle.setting.proofs.image_notice.Statement.{statement}
 use Rattle.setting.proofs.image_notice.Tie as tie
@@ -11,6 +12,9 @@ returns : tie.Need-returns
 returns c = let a = c .before .before .before .args in
     let fills = c .before .is-fill in
     rw (fill-by (a .d .now) (a .explicit) (a .image) (fills .result) (c .before .before .before .pre .2 .0) (fills .ensures) ∙ not-true (fills .result) (c .if1 .taken))
+
+pixels-requires : tie.Need-pixels-requires
+pixels-requires c κs = let p = c .before .before .before .before .pre in (p .2 .1, subst PixelsFit (sym (p .2 .0)) (p .3))
 
 cast-t9 : tie.Need-cast-t9
 cast-t9 c = let a = c .before .before .before .before .before .before .args in
@@ -31,7 +35,7 @@ image-notice-spec =
     (tie.spec
     (λ c κs. search needs)
     returns
-    (λ c κs. search needs)
+    pixels-requires
     cast-t9
     (λ c. search needs)
     (λ c. search needs)
