@@ -7,7 +7,7 @@ use rules::Name;
 use rules::Operation;
 use rules::Request;
 use rules::Target;
-use verdicts::NewBoxes;
+use verdicts::NO_NEW_BOXES;
 use verdicts::Notice;
 use verdicts::Verdict;
 ghost use mathlib.Core.Path.{_≡_};
@@ -52,7 +52,7 @@ fn films_queued(after: Core, name: Name, status: u16, films: u32) -> Verdict
             second: 0,
             third: 0,
         },
-        boxes: NewBoxes { first: 0, count: 0 },
+        boxes: NO_NEW_BOXES,
     }
 }
 

@@ -9,8 +9,8 @@ use rules::Operation;
 use rules::Request;
 use rules::Serial;
 use rules::Session;
+use verdicts::NO_NOTICE;
 use verdicts::NewBoxes;
-use verdicts::Notice;
 use verdicts::Verdict;
 ghost use mathlib.Core.Path.{_≡_};
 ghost use mathlib.Core.List.{[], _∷_, _++_};
@@ -229,12 +229,7 @@ fn with_new_boxes(core: Core, name: Name, boxes: NewBoxes) -> Verdict
         status: 0,
         core,
         instance: name,
-        notice: Notice {
-            kind: 0,
-            first: 0,
-            second: 0,
-            third: 0,
-        },
+        notice: NO_NOTICE,
         boxes,
     }
 }

@@ -13,6 +13,7 @@ use Rattle.choice.specs.Pick.{not}
 use Rattle.octets.specs.Octets.{octets, laid}
 use Rattle.octets.proofs.Laid.{laid-none}
 use Rattle.uids.specs.Uids.{isUid, made, decimal}
+use Rattle.uids.proofs.Length.{uid-some}
 use Rattle.uids.proofs.Made.{made-short}
 use Rattle.writing.specs.Bytes.{written}
 use Rattle.rules.specs.declared.Name.{Name}
@@ -34,7 +35,6 @@ use Rattle.verdicts.specs.declared.NewBoxes.{NewBoxes}
 use Rattle.verdicts.specs.declared.Verdict.{Verdict}
 use Rattle.verdicts.specs.Verdicts.{instanceOf, noteOf, dataSetOf, replyOf}
 use Rattle.verdicts.specs.Ready.{UidIn, UidsIn}
-use Rattle.verdicts.proofs.Laws.{uid-some}
 use Rattle.feeding.specs.Feeding.{isAction, kindOf, commandBytes, reportOf, unknownReply}
 
 pub front-short : (s front : List ℕ) (n most : ℕ) → front ≡ take n s → n ≤ most → length front ≤ most

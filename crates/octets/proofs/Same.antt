@@ -1,4 +1,4 @@
--- Two lists of bytes are the same exactly where they are equal.
+-- Two lists of bytes are the same exactly where they are equal; they are compared from the last byte back, and part by part.
 -- Assumes nothing.
 use Prim.Native.Nat.{ℕ, suc, _-_, _<_, _≤_}
 use mathlib.Core.Path.{_≡_, refl, ap, _∙_}

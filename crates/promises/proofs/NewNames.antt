@@ -5,14 +5,15 @@ use mathlib.Core.Path.{_≡_, refl}
 use mathlib.Core.Bool.{Bool, true, false}
 use mathlib.Core.List.{List, [], _∷_}
 use native.Mathlib.Omega.{arith}
-use lib.Dec.{eqb, leb, ltb}
+use lib.Dec.{eqb, ltb}
 use lib.ListN.{length, take}
-use borrow.Author.Tests.{ltb-true, lt-ltb, le-ltb, leb-true, eqb-true, eqb-false, ne-eqb}
+use borrow.Author.Tests.{ltb-true, lt-ltb, le-ltb, eqb-true, eqb-false, ne-eqb}
 use Rattle.choice.specs.Pick.{pick, either, not}
-use Rattle.choice.proofs.Picks.{Kept, pick-cases, both-true, both-fails, both-second, either-false, not-false, clash}
+use Rattle.choice.proofs.Picks.{Kept, pick-cases, both-fails, both-second, either-false, not-false, clash}
 use Rattle.octets.specs.Octets.{same}
 use Rattle.octets.proofs.Same.{same-equal, same-self}
-use Rattle.uids.specs.Uids.{components, isUid, beginsWith, made}
+use Rattle.uids.specs.Uids.{isUid, beginsWith, made}
+use Rattle.uids.proofs.Length.{uid-short}
 use Rattle.headers.specs.declared.Part.{Part}
 use Rattle.rules.specs.declared.Name.{Name}
 use Rattle.rules.specs.declared.Numbers.{Numbers}
@@ -24,11 +25,6 @@ use Rattle.rules.specs.Checks.{isNobody, isSent, createRules, sentUid}
 use Rattle.rules.specs.Sound.{nameSound, nameBlank, sentSound, madeSound, Serials, overlap, ownSerial, sentText, sameText}
 use Rattle.promises.proofs.ListLaws.{all-true, all-holds, zeros-replicate, take-filled, behind-filled}
 use Rattle.promises.proofs.Facts.{between-holds}
-
--- a UID has at most 64 characters
-pub uid-short : (u : List ℕ) → isUid u ≡ true → length u ≤ 64
-unfolding isUid
-uid-short u e = leb-true (length u) 64 (both-true (leb (length u) 64) (components [] u) e .0)
 
 -- What check 6 tells of a UID that is sent; none is sent where it is empty.
 

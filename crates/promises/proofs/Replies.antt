@@ -11,6 +11,7 @@ use lib.ListN.{length, length-take}
 use Rattle.choice.specs.Pick.{both}
 use Rattle.choice.proofs.Picks.{pick-cases, Kept, first-cases, both-true}
 use Rattle.uids.specs.Uids.{isUid, made}
+use Rattle.uids.proofs.Length.{uid-short}
 use Rattle.uids.proofs.Made.{made-short}
 use Rattle.strike.specs.Service.{DataSet, Result, fails, does}
 use Rattle.rules.specs.declared.Core.{Core}
@@ -26,7 +27,7 @@ use Rattle.rules.specs.Attributes.{Listing, listingOf}
 use Rattle.rules.specs.Commands.{inCommand, placed, uidAt, hasUid, hasTarget, hasNumber, field, requestIn, wellFormed, understood}
 use Rattle.rules.specs.Responses.{Note, noNote, Reply, reply}
 use Rattle.rules.specs.Checks.{Class, verification, sessions, films, boxes, unknownClass, classOf, classPart, isSent, createRules, generalRules, Done, createPlan, setPlan, actionPlan, deletePlan, planOf, sentUid, newUid, dataOf, failedInstance, says, saysUnknown, failed, answered, decideRequest, decideCommand, decide}
-use Rattle.promises.proofs.NewNames.{uid-short, sendable, sent-short}
+use Rattle.promises.proofs.NewNames.{sendable, sent-short}
 use Rattle.promises.proofs.Decided.{kept-both}
 use Rattle.promises.proofs.ReplySizes.{Short, Brief, reply-fits}
 use Rattle.promises.proofs.ReadBack.{ResponseMeans, response-means}

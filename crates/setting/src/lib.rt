@@ -9,7 +9,8 @@ use rules::Numbers;
 use rules::Operation;
 use rules::Request;
 use rules::Target;
-use verdicts::NewBoxes;
+use verdicts::NO_NEW_BOXES;
+use verdicts::NO_NOTICE;
 use verdicts::Notice;
 use verdicts::Verdict;
 ghost use mathlib.Core.Path.{_≡_};
@@ -167,12 +168,7 @@ fn image_notice(k: Core, d: &[u8], explicit: bool, image: Image) -> Notice
     ensures { λ r. ⌜ noteOf r ≡ imageNote k (imageIn (listingOf (now (d .entry)) explicit)) ⌝ }
 {
     if !boxes::is_fill(image) {
-        return Notice {
-            kind: 0,
-            first: 0,
-            second: 0,
-            third: 0,
-        };
+        return NO_NOTICE;
     }
     let numbers = k.numbers;
     let at = boxes::pixels(d, explicit, image);
@@ -212,7 +208,7 @@ fn box_stored(k: Core, d: &[u8], explicit: bool, i: usize, j: usize, name: Name)
         core,
         instance: name,
         notice,
-        boxes: NewBoxes { first: 0, count: 0 },
+        boxes: NO_NEW_BOXES,
     }
 }
 

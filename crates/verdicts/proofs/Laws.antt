@@ -1,20 +1,20 @@
 -- What a verdict means.
 -- Assumes nothing.
-use Prim.Native.Nat.{ℕ, _-_, _≤_}
+use Prim.Native.Nat.{ℕ, _-_}
 use mathlib.Core.Path.{_≡_, refl, ap, sym}
 use mathlib.Core.Bool.{Bool, true, false}
-use mathlib.Core.List.{List, [], _∷_}
+use mathlib.Core.List.{List, []}
 use mathlib.Core.Option.{Option, none, some}
-use native.Mathlib.Omega.{arith}
-use lib.Dec.{eqb, leb}
+use lib.Dec.{eqb}
 use lib.ListN.{length, replicate}
 use lib.Seq.{take-append-seam}
-use borrow.Author.Tests.{ne-eqb, leb-true}
+use borrow.Author.Tests.{ne-eqb}
 use Rattle.choice.specs.Pick.{pick, both}
 use Rattle.choice.specs.Rules.{firstBroken, numbered}
-use Rattle.choice.proofs.Picks.{both-true, clash}
+use Rattle.choice.proofs.Picks.{both-true}
 use Rattle.choice.proofs.Broken.{first-by-number}
-use Rattle.uids.specs.Uids.{isUid, components, component}
+use Rattle.uids.specs.Uids.{isUid}
+use Rattle.uids.proofs.Length.{uid-some}
 use Rattle.strike.specs.Service.{Result, fails}
 use Rattle.rules.specs.declared.Numbers.{Numbers}
 use Rattle.rules.specs.declared.Core.{Core}
@@ -28,16 +28,6 @@ use Rattle.rules.specs.Responses.{Reply, reply, noNote}
 use Rattle.rules.specs.Checks.{Plan, isSent, says, failed, answered, quietly, failedInstance}
 use Rattle.verdicts.specs.Verdicts.{instanceOf, failedName, sentOrNone, meant, failing, quiet, decidedBy}
 use Rattle.verdicts.specs.Ready.{UidsIn}
-
--- a UID has a character, and at most 64
-pub uid-some : (u : List ℕ) → isUid u ≡ true → length u ≡ 0 → ⊥
-unfolding isUid components component
-uid-some [] e h = clash refl e
-uid-some (c ∷ u) e h = omega (arith, h)
-
-pub uid-short : (u : List ℕ) → isUid u ≡ true → length u ≤ 64
-unfolding isUid
-uid-short u e = leb-true (length u) 64 (both-true (leb (length u) 64) (components [] u) e .0)
 
 -- a UID that was sent is the instance shown
 pub sent-shown : (n : Numbers) (u : List ℕ) → isUid u ≡ true → instanceOf n (sentName u) ≡ some u

@@ -22,11 +22,20 @@ pub struct Notice {
     pub third: u32,
 }
 
+pub const NO_NOTICE: Notice = Notice {
+    kind: 0,
+    first: 0,
+    second: 0,
+    third: 0,
+};
+
 // The boxes of a created film, by the first's serial; none where no film was created.
 pub struct NewBoxes {
     pub first: u32,
     pub count: u8,
 }
+
+pub const NO_NEW_BOXES: NewBoxes = NewBoxes { first: 0, count: 0 };
 
 // What a request comes to: done or failed, the status, the core afterwards, the instance that the response names.
 pub struct Verdict {
@@ -54,13 +63,8 @@ pub fn quiet(k: Core, name: Name) -> Verdict
         status: 0,
         core: k,
         instance: name,
-        notice: Notice {
-            kind: 0,
-            first: 0,
-            second: 0,
-            third: 0,
-        },
-        boxes: NewBoxes { first: 0, count: 0 },
+        notice: NO_NOTICE,
+        boxes: NO_NEW_BOXES,
     }
 }
 
@@ -72,13 +76,8 @@ fn failing(k: Core, name: Name, status: u16) -> Verdict
         status: status,
         core: k,
         instance: name,
-        notice: Notice {
-            kind: 0,
-            first: 0,
-            second: 0,
-            third: 0,
-        },
-        boxes: NewBoxes { first: 0, count: 0 },
+        notice: NO_NOTICE,
+        boxes: NO_NEW_BOXES,
     }
 }
 

@@ -4,7 +4,7 @@ use lib.ListN.{length}
 use denote.Ref.{now}
 use Rattle.rules.specs.Commands.{uidAt}
 use Rattle.commands.specs.Within.{PartIn}
-use Rattle.verdicts.proofs.Laws.{uid-short}
+use Rattle.uids.proofs.Length.{uid-short}
 use Rattle.feeding.proofs.Response.{class-uid, says-by}
 use borrow.Author.Needs.{needs}
 use Rattle.feeding.proofs.put_command.Statement.{statement}

@@ -2,7 +2,7 @@ use mathlib.Core.Path.{sym, ap, subst, _∙_}
 use Prim.Native.Nat.{_≤_}
 use lib.ListN.{length}
 use Rattle.rules.specs.Records.{sentName}
-use Rattle.verdicts.proofs.Laws.{uid-short}
+use Rattle.uids.proofs.Length.{uid-short}
 use borrow.Author.Needs.{needs}
 use Rattle.verdicts.proofs.name_at.Statement.{statement}
 use Rattle.verdicts.proofs.name_at.Tie as tie
