@@ -8,17 +8,23 @@ use Rattle.records.proofs.films_at.Tie as tie
 
 returns : tie.Need-returns
 unfolding filmFormat nameFormat serialFormat layoutFormat boxFormat pictureFormat
-returns c = let a = c .before .before .before .before .before .before .before .before .before .args in
-    let s = now (a .s) in
-    let p = a .p in
-    let x1 = read-first filmFormat s p _ (c .before .before .before .before .before .before .before .film-at .ensures) in
-    let x2 = read-next filmFormat s p 1 _ _ (c .before .before .before .before .before .before .film-at2 .ensures) x1 in
-    let x3 = read-next filmFormat s p 2 _ _ (c .before .before .before .before .before .film-at3 .ensures) x2 in
-    let x4 = read-next filmFormat s p 3 _ _ (c .before .before .before .before .film-at4 .ensures) x3 in
-    let x5 = read-next filmFormat s p 4 _ _ (c .before .before .before .film-at5 .ensures) x4 in
-    let x6 = read-next filmFormat s p 5 _ _ (c .before .before .film-at6 .ensures) x5 in
-    let x7 = read-next filmFormat s p 6 _ _ (c .before .film-at7 .ensures) x6 in
-    read-next filmFormat s p 7 _ _ (c .film-at8 .ensures) x7
+returns c =
+    let c7 = c .before in
+    let c6 = c7 .before in
+    let c5 = c6 .before in
+    let c4 = c5 .before in
+    let c3 = c4 .before in
+    let c2 = c3 .before in
+    let c1 = c2 .before in
+    let a = c1 .before .before .args in
+    let x1 = read-first filmFormat (now (a .s)) (a .p) _ (c1 .film-at .ensures) in
+    let x2 = read-next filmFormat _ _ 1 _ _ (c2 .film-at2 .ensures) x1 in
+    let x3 = read-next filmFormat _ _ 2 _ _ (c3 .film-at3 .ensures) x2 in
+    let x4 = read-next filmFormat _ _ 3 _ _ (c4 .film-at4 .ensures) x3 in
+    let x5 = read-next filmFormat _ _ 4 _ _ (c5 .film-at5 .ensures) x4 in
+    let x6 = read-next filmFormat _ _ 5 _ _ (c6 .film-at6 .ensures) x5 in
+    let x7 = read-next filmFormat _ _ 6 _ _ (c7 .film-at7 .ensures) x6 in
+    read-next filmFormat _ _ 7 _ _ (c .film-at8 .ensures) x7
 
 pub films-at-spec : {M : Type 1} → statement M
 films-at-spec =
@@ -31,12 +37,12 @@ films-at-spec =
     (λ c κs. search needs)
     (λ c. search needs)
     (λ c κs. search needs)
-    (λ c. omega (arith, c .before .before .before .before .before .pre, c .before .before .before .before .before .good))
-    (λ c κs. omega (arith, c .before .before .before .before .before .pre))
-    (λ c. omega (arith, c .before .before .before .before .before .before .pre, c .before .before .before .before .before .before .good))
-    (λ c κs. omega (arith, c .before .before .before .before .before .before .pre))
-    (λ c. omega (arith, c .before .before .before .before .before .before .before .pre, c .before .before .before .before .before .before .before .good))
-    (λ c κs. omega (arith, c .before .before .before .before .before .before .before .pre))
-    (λ c. omega (arith, c .before .before .before .before .before .before .before .before .pre, c .before .before .before .before .before .before .before .before .good))
-    (λ c κs. omega (arith, c .before .before .before .before .before .before .before .before .pre))
+    (λ c. let o : tie.Start = search in omega (arith, o .pre, o .good))
+    (λ c κs. let o : tie.Start = search in omega (arith, o .pre))
+    (λ c. let o : tie.Start = search in omega (arith, o .pre, o .good))
+    (λ c κs. let o : tie.Start = search in omega (arith, o .pre))
+    (λ c. let o : tie.Start = search in omega (arith, o .pre, o .good))
+    (λ c κs. let o : tie.Start = search in omega (arith, o .pre))
+    (λ c. let o : tie.Start = search in omega (arith, o .pre, o .good))
+    (λ c κs. let o : tie.Start = search in omega (arith, o .pre))
     returns)
