@@ -1,33 +1,38 @@
 -- What an N-SET may rest on where its rules are kept, and what its verdicts mean.
 -- Assumes nothing.
 use Prim.Native.Nat.{ℕ, zero, suc, _-_, _<_, _≤_}
-use mathlib.Core.Path.{_≡_, refl, sym, ap, _∙_}
+use mathlib.Core.Path.{_≡_, refl, sym, ap, _∙_, subst⁻¹}
+use mathlib.Core.Bool as bool
 use mathlib.Core.Bool.{Bool, true, false}
 use mathlib.Core.List.{List, [], _∷_}
 use mathlib.Core.Option.{none, some}
 use native.Mathlib.Omega.{arith}
 use lib.Dec.{eqb}
 use lib.ListN.{length, getD, set, take}
-use borrow.Author.Tests.{eqb-true, eq-eqb, ne-eqb}
+use borrow.Author.Tests.{eqb-true, eq-eqb, ne-eqb, not-true, not-false}
 use Rattle.choice.specs.Pick.{pick, both}
 use Rattle.choice.specs.Rules.{Rule, _⇒_, firstBroken, numbered}
 use Rattle.choice.proofs.Picks.{clash, both-second}
 use Rattle.choice.proofs.Broken.{broken-append}
+use Rattle.uids.specs.Uids.{isUid}
 use Rattle.headers.specs.declared.Part.{Part}
+use Rattle.strike.specs.Service.{whole}
 use Rattle.rules.specs.declared.Name.{Name}
 use Rattle.rules.specs.declared.ImageBox as image-box
 use Rattle.rules.specs.declared.Film as film
 use Rattle.rules.specs.declared.Numbers.{Numbers}
 use Rattle.rules.specs.declared.Core.{Core}
 use Rattle.rules.specs.declared.Request.{Request}
+use Rattle.rules.specs.declared.Target.{Target}
+use Rattle.rules.specs.declared.Operation.the-variants.{Set}
 use Rattle.rules.specs.Bounds.{noneLeft}
-use Rattle.rules.specs.Records.{noName, noBox, noFilm, boxCount, filmsOf, withNumbers, named}
+use Rattle.rules.specs.Records.{noName, sentName, noBox, noFilm, boxCount, filmsOf, withNumbers, pictureUsed, explicitVR, named}
 use Rattle.rules.specs.Commands.{uidAt}
 use Rattle.rules.specs.Attributes.{Listing, listingOf, pixels, us, attributeRules, boxStandings, Image, keeps, erases, tooMany, fills, imageIn, isFill, pictureAfter, boxWith}
 use Rattle.rules.specs.Sound.{coreSound, filmSound}
 use Rattle.rules.specs.Responses.{Note, pictureAt}
 use Rattle.rules.specs.Effects.{filmAt, withFilm, withBoxes, numbersAfter, boxSet, noPictureLeft}
-use Rattle.rules.specs.Checks.{boxRules, setPlan, targetRules, also, imageNote, quietly, failed, answered}
+use Rattle.rules.specs.Checks.{boxRules, setPlan, targetRules, also, imageNote, quietly, failed, answered, Plan, planOf}
 use Rattle.promises.proofs.ListLaws.{every-at}
 use Rattle.promises.proofs.Facts.{between-true, core-facts, numbers-facts, shelf-facts, film-facts}
 use Rattle.promises.proofs.Layouts.{boxes-most}
@@ -41,10 +46,10 @@ use Rattle.instances.specs.declared.Whom.the-variants.{Nobody, Session, Film, I
 use Rattle.instances.specs.Meant.{instanceMeant}
 use Rattle.verdicts.specs.declared.Notice.{Notice}
 use Rattle.verdicts.specs.declared.Verdict.{Verdict}
-use Rattle.verdicts.specs.Verdicts.{instanceOf, noteOf, noNewBoxes, meant, quiet, decidedBy}
-use Rattle.verdicts.proofs.Laws.{quiet-meant, plan-by-number}
-use Rattle.verdicts.proofs.Plans.{plan-kept, none-broken}
-use Rattle.setting.specs.Asked.{rulesFor, PictureLeft, Stores}
+use Rattle.verdicts.specs.Verdicts.{instanceOf, noteOf, noNewBoxes, meant, quiet, decidedBy, BoxesFit, Decides}
+use Rattle.verdicts.proofs.Laws.{quiet-meant, plan-by-number, sent-shown}
+use Rattle.verdicts.proofs.Plans.{plan-kept, none-broken, no-boxes-fit, broken-decides}
+use Rattle.setting.specs.Asked.{asked, rulesFor, PictureLeft, Stores}
 
 -- Rules.
 
@@ -118,16 +123,43 @@ module _ (k : Core) (i : ℕ) (l : Listing) (n : ℕ) (e : n ≡ firstBroken (at
       let lacking = both (isFill (imageIn l)) (noPictureLeft (k .numbers)) in
       broken-append (attributeRules (boxStandings (boxCount (filmAt k i .layout)) l)) ((lacking ⇒ 0x0213) ∷ []) refl ∙ ap (λ m. pick (eqb m 0) (pick lacking 0x0213 0) m) (sym e)
 
-  pub attributes-broken : (n ≡ 0 → ⊥) → n ≡ firstBroken (boxRules k i l)
+  attributes-broken : (n ≡ 0 → ⊥) → n ≡ firstBroken (boxRules k i l)
   attributes-broken h = sym (box-number ∙ rw (ne-eqb n 0 h))
 
-  pub attributes-kept : (fill spent : Bool) → n ≡ 0 → isFill (imageIn l) ≡ fill → noPictureLeft (k .numbers) ≡ spent → pick (both fill spent) 0x0213 0 ≡ firstBroken (boxRules k i l)
+  attributes-kept : (fill spent : Bool) → n ≡ 0 → isFill (imageIn l) ≡ fill → noPictureLeft (k .numbers) ≡ spent → pick (both fill spent) 0x0213 0 ≡ firstBroken (boxRules k i l)
   attributes-kept fill spent h f g = sym (box-number ∙ rw (eq-eqb n 0 h, f, g))
 
 -- whether it fills, by what the code has read
 pub fill-by : (d : List ℕ) (explicit : Bool) (image : code.Image) (test : Bool) → imageMeant d explicit image ≡ imageIn (listingOf d explicit) → test ≡ fillsBox image
     → isFill (imageIn (listingOf d explicit)) ≡ test
 fill-by d explicit image test e f = sym (ap isFill e) ∙ fills-meant d explicit image ∙ sym f
+
+-- checks 8 and 9, by what the code tells on its way
+module _ (k : Core) (i : ℕ) (d : List ℕ) (explicit : Bool) (f : film.Film) (at : f ≡ filmAt k i) (count : ℕ) (counted : count ≡ boxCount (f .layout))
+    (image : code.Image) (read : imageMeant d explicit image ≡ imageIn (listingOf d explicit)) (n : ℕ) (first : n ≡ firstBroken (attributeRules (boxStandings count (listingOf d explicit)))) where
+  abbrev Told : ℕ → Type 0
+  Told m = m ≡ firstBroken (boxRules k i (listingOf d explicit))
+
+  own-first : n ≡ firstBroken (attributeRules (boxStandings (boxCount (filmAt k i .layout)) (listingOf d explicit)))
+  own-first = first ∙ ap (λ b. firstBroken (attributeRules (boxStandings b (listingOf d explicit)))) (counted ∙ ap (λ x. boxCount (x .layout)) at)
+
+  pub attribute-breaks : (n ≡ 0 → ⊥) → Told n
+  attribute-breaks = attributes-broken k i (listingOf d explicit) n own-first
+
+  module _ (kept : n ≡ 0) (test : Bool) (tested : test ≡ fillsBox image) where
+    fill : isFill (imageIn (listingOf d explicit)) ≡ test
+    fill = fill-by d explicit image test read tested
+
+    pub nothing-fills : bool.not test ≡ true → Told 0
+    nothing-fills h = attributes-kept k i (listingOf d explicit) n own-first false (noPictureLeft (k .numbers)) kept (fill ∙ not-true test h) refl
+
+    pub picture-lacks : bool.not test ≡ false → k .numbers .picture ≡ noneLeft → Told 0x0213
+    picture-lacks h e = attributes-kept k i (listingOf d explicit) n own-first true true kept (fill ∙ not-false test h) (eq-eqb _ _ e)
+
+    pub picture-given : bool.not test ≡ false → (k .numbers .picture ≡ noneLeft → ⊥) → Told 0
+    picture-given h e = attributes-kept k i (listingOf d explicit) n own-first true false kept (fill ∙ not-false test h) (ne-eqb _ _ e)
+
+pub ruleset box-checks = (attribute-breaks, nothing-fills, picture-lacks, picture-given)
 
 -- a film of a sound core has no more boxes than there are places
 pub boxes-few : (k : Core) (i : ℕ) → coreSound k ≡ true → i < length (filmsOf (k .shelf)) → boxCount (filmAt k i .layout) ≤ 36
@@ -192,6 +224,23 @@ pub box-set-by : (k : Core) (i j : ℕ) (l : Listing) (after : Core) (n : Number
 unfolding boxSet
 box-set-by k i j l after n f film b old e1 e2 e3 e4 e5 e6 = rw (e1, e2, e3, e4, e5, e6)
 
+-- a box set, by what the code tells on its way
+module _ (k : Core) (i j : ℕ) (d : List ℕ) (explicit : Bool) (image : code.Image) (read : imageMeant d explicit image ≡ imageIn (listingOf d explicit))
+    (before : film.Film) (at : before ≡ filmAt k i) (old : image-box.ImageBox) (was : old ≡ getD (before .boxes) j noBox) (test : Bool) (tested : test ≡ fillsBox image) where
+  fills-told : isFill (imageIn (listingOf d explicit)) ≡ test
+  fills-told = fill-by d explicit image test read tested
+
+  module _ (b : image-box.ImageBox) (f : film.Film) (with-b : f ≡ withBoxes (set (before .boxes) j b) before) (after : Core) where
+    pub box-filled : test ≡ true → (n : Numbers) → n ≡ pictureUsed (k .numbers) → b ≡ boxWith (k .numbers .picture) (listingOf d explicit) old
+        → after ≡ withNumbers n (withFilm i f k) → after ≡ boxSet k i j (listingOf d explicit)
+    box-filled h n used full e =
+        box-set-by k i j (listingOf d explicit) after n f before b old e (used ∙ sym (ap (λ t. pick t (pictureUsed (k .numbers)) (k .numbers)) (fills-told ∙ h))) with-b full was at
+
+    pub box-other : test ≡ false → b ≡ boxWith 0 (listingOf d explicit) old → after ≡ withNumbers (k .numbers) (withFilm i f k) → after ≡ boxSet k i j (listingOf d explicit)
+    box-other h other e =
+        box-set-by k i j (listingOf d explicit) after (k .numbers) f before b old e (sym (ap (λ t. pick t (pictureUsed (k .numbers)) (k .numbers)) (fills-told ∙ h))) with-b
+        (other ∙ box-unfilled 0 (k .numbers .picture) (listingOf d explicit) old (fills-told ∙ h)) was at
+
 pub note-fills : (k : Core) (image : Image) (at : Part) → isFill image ≡ true → at ≡ pixels image → pictureAt (k .numbers .picture) (at .from) (at .stop - at .from) ≡ imageNote k image
 note-fills k image at e f = rw (e, f)
 
@@ -208,3 +257,42 @@ pub set-meant : (k after : Core) (c uid : List ℕ) (r : Request) (name : Name) 
     ≡ answered c r (record { core = after; status = 0x0000; instance = some uid; dataSet = []; note = note })
 unfolding meant
 set-meant k after c uid r name notice note e f = rw (sym e, sym f)
+
+-- a set, by what the code tells on its way
+module _ (k : Core) (c d : List ℕ) (message : ℕ) (t : Target) (n : ℕ) (first : n ≡ firstBroken (targetRules k c (t .class) (t .instance))) where
+  abbrev Right : Verdict → Type 0
+  Right v = Decides k c (asked message t) (planOf k c (whole d) (Set t)) v
+
+  abbrev Fails : Verdict → ℕ → Type 0
+  Fails v status = (meant k c (asked message t) v ≡ failed c (asked message t) status) × (v .core ≡ k) × (v .boxes ≡ noNewBoxes)
+
+  abbrev l : Listing
+  l = listingOf d (explicitVR k)
+
+  abbrev rules : List Rule
+  rules = targetRules k c (t .class) (t .instance)
+
+  abbrev plan : Plan
+  plan = setPlan k (named k (uidAt c (t .instance))) (uidAt c (t .instance)) l
+
+  pub names-none : (n ≡ 0 → ⊥) → (v : Verdict) → Fails v n → Right v
+  unfolding planOf
+  names-none broken v f = broken-decides c (asked message t) rules plan (target-numbered k c (t .class) (t .instance)) n first k v f broken
+
+  module _ (kept : n ≡ 0) (uid : List ℕ) (at : uid ≡ uidAt c (t .instance)) (whom : Whom) (is : instanceMeant whom ≡ named k uid) (m : ℕ) (own : m ≡ firstBroken (rulesFor k whom l)) where
+    decides : decidedBy c (asked message t) (also rules plan) ≡ decidedBy c (asked message t) (setPlan k (instanceMeant whom) (uidAt c (t .instance)) l)
+    decides = target-kept c (asked message t) k whom (t .class) (t .instance) l n first kept (is ∙ ap (named k) at)
+
+    pub breaks-own : (m ≡ 0 → ⊥) → (v : Verdict) → Fails v m → Right v
+    unfolding planOf
+    breaks-own broken v f =
+        (f .0 ∙ sym (decides ∙ own-broken c (asked message t) k whom (uidAt c (t .instance)) l m own broken), λ h. f .1, subst⁻¹ BoxesFit (f .2) no-boxes-fit)
+
+    pub keeps-all : m ≡ 0 → isUid (uidAt c (t .instance)) ≡ true → (name : Name) → name ≡ sentName (uidAt c (t .instance)) → (v : Verdict)
+        → Stores k name v (λ x. setPlan k (instanceMeant whom) x l .done) → Right v
+    unfolding planOf
+    keeps-all none-own u name e v f =
+        let shown = ap (instanceOf (k .numbers)) e ∙ sent-shown (k .numbers) (uidAt c (t .instance)) u in
+        (f .1 c (uidAt c (t .instance)) (asked message t) shown ∙ sym (decides ∙ own-kept c (asked message t) k whom (uidAt c (t .instance)) l m own none-own), λ h. absurd (clash h (f .0)), subst⁻¹ BoxesFit (f .2) no-boxes-fit)
+
+pub ruleset sets = (names-none, breaks-own, keeps-all)
