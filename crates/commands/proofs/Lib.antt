@@ -3,5 +3,6 @@ pub mod Within
 mod Laws
 mod Gathering
 mod Held
+mod Requests
 mod WellFormed
 mod Slots
