@@ -10,18 +10,21 @@ use lib.ListN.{length, getD, set, replicate, length-set, getD-replicate}
 use lib.Seq.{getD-set-same, getD-set-other}
 use borrow.Author.Tests.{ltb-true, ltb-false, eqb-true, eqb-false, lt-ltb, le-ltb}
 use Rattle.choice.specs.Pick.{both}
-use Rattle.choice.proofs.Picks.{pick-cases, both-fails}
+use Rattle.choice.proofs.Picks.{pick-cases, both-fails, clash}
 use Rattle.headers.specs.declared.Part.{Part}
 use Rattle.headers.specs.declared.Close.the-variants.{Here, Not}
+use Rattle.headers.specs.declared.Close.{Close}
+use Rattle.headers.specs.declared.Head.{Head}
 use Rattle.headers.specs.Header.{tagAt, headAt, closeAt}
+use Rattle.elements.specs.declared.Read.{Read}
 use Rattle.elements.specs.declared.Read.the-variants.{Past, Refused}
 use Rattle.elements.specs.declared.Found.{Found}
 use Rattle.elements.specs.Reader.{Mark, whole, itemEnd, elementAt, listFrom, listAt, dataSet}
 use Rattle.elements.specs.Find.{elementsFrom, among, found, findAt}
-use Rattle.elements.proofs.Laws.{element-above, list-done, list-refused, list-more, elements-done, elements-more, find-done, find-here, find-more, find-below}
+use Rattle.elements.proofs.Laws.{element-past, element-above, list-done, list-refused, list-more, elements-done, elements-more, find-done, find-here, find-more, find-below}
 use Rattle.rules.specs.Lists.{every}
 use Rattle.rules.specs.Commands.{inCommand, noPart, placed, isRead, groupZero}
-use Rattle.commands.specs.Places.{slotOf, Holds, wholeCommand}
+use Rattle.commands.specs.Places.{slotOf, Holds, wholeCommand, Gathers}
 
 abbrev mark : ℕ → ℕ → Mark
 mark at floor = record { at = at; floor = floor }
@@ -39,19 +42,19 @@ unfolding wholeCommand wholeFrom groupZero dataSet listAt
 whole-start c = refl
 
 module _ (c : List ℕ) (at floor : ℕ) (h : at ≤ length c) where
-  pub whole-done : {q : ℕ} → closeAt c itemEnd (whole c) at ≡ Here q → wholeFrom c at floor ≡ true
+  whole-done : {q : ℕ} → closeAt c itemEnd (whole c) at ≡ Here q → wholeFrom c at floor ≡ true
   unfolding wholeFrom every
   whole-done k = rw (list-done c false 4 (whole c) at h floor k, elements-done c false 4 (whole c) at h floor k)
 
-  pub whole-refused : {n : ℕ} → closeAt c itemEnd (whole c) at ≡ Not → elementAt c false 4 (length c) at floor ≡ Refused n → wholeFrom c at floor ≡ false
+  whole-refused : {n : ℕ} → closeAt c itemEnd (whole c) at ≡ Not → elementAt c false 4 (length c) at floor ≡ Refused n → wholeFrom c at floor ≡ false
   unfolding wholeFrom
   whole-refused k e = rw (list-refused c false 4 (whole c) at h floor k e)
 
-  pub whole-other : {q : ℕ} → closeAt c itemEnd (whole c) at ≡ Not → elementAt c false 4 (length c) at floor ≡ Past q → 65536 ≤ tagAt c at → wholeFrom c at floor ≡ false
+  whole-other : {q : ℕ} → closeAt c itemEnd (whole c) at ≡ Not → elementAt c false 4 (length c) at floor ≡ Past q → 65536 ≤ tagAt c at → wholeFrom c at floor ≡ false
   unfolding wholeFrom every
   whole-other k e t = rw (elements-more c false 4 (whole c) at h floor k e, le-ltb (tagAt c at) 65536 t) (both-fails (isRead (listFrom (elementAt c false 4) c (whole c) (mark at floor))))
 
-  pub whole-more : {q : ℕ} → closeAt c itemEnd (whole c) at ≡ Not → elementAt c false 4 (length c) at floor ≡ Past q → tagAt c at < 65536 → wholeFrom c at floor ≡ wholeFrom c q (tagAt c at + 1)
+  whole-more : {q : ℕ} → closeAt c itemEnd (whole c) at ≡ Not → elementAt c false 4 (length c) at floor ≡ Past q → tagAt c at < 65536 → wholeFrom c at floor ≡ wholeFrom c q (tagAt c at + 1)
   unfolding wholeFrom every
   whole-more k e t = rw (list-more c false 4 (whole c) at h floor k e, elements-more c false 4 (whole c) at h floor k e, lt-ltb (tagAt c at) 65536 t)
 
@@ -137,7 +140,7 @@ gathering-start c =
     }
 
 module _ (c : List ℕ) (at floor : ℕ) (h : at ≤ length c) (parts : List Part) (g : Gathering c at floor parts) where
-  pub gathering-done : {q : ℕ} → closeAt c itemEnd (whole c) at ≡ Here q → Holds c parts
+  gathering-done : {q : ℕ} → closeAt c itemEnd (whole c) at ≡ Here q → Holds c parts
   gathering-done k = record { all = g .all; each = λ tag l. known-done c at floor h tag _ (g .each tag l) k }
 
   module _ {q : ℕ} (k : closeAt c itemEnd (whole c) at ≡ Not) (e : elementAt c false 4 (length c) at floor ≡ Past q) where
@@ -151,5 +154,39 @@ module _ (c : List ℕ) (at floor : ℕ) (h : at ≤ length c) (parts : List Par
         rw (getD-set-other parts (slotOf (tagAt c at)) (slotOf tag) (placed (found (headAt c false (length c) at floor))) noPart (λ d. other (sym d)))
         (known-more c at floor h tag _ (g .each tag l) k e (λ d. other (ap slotOf d)))
 
-    pub gathering-more : Gathering c q (tagAt c at + 1) (set parts (slotOf (tagAt c at)) (placed (found (headAt c false (length c) at floor))))
+    gathering-more : Gathering c q (tagAt c at + 1) (set parts (slotOf (tagAt c at)) (placed (found (headAt c false (length c) at floor))))
     gathering-more = record { all = length-set parts _ _ ∙ g .all; each = λ tag l. told-each tag l (eqb (slotOf (tagAt c at)) (slotOf tag)) refl }
+
+-- One turn of the walk, by what the code tells on its way.
+
+module _ (c : List ℕ) (at floor : ℕ) (parts : List Part) (inv : (at ≤ length c) × (wholeCommand c ≡ wholeFrom c at floor) × Gathering c at floor parts)
+    (x : Close) (closes : x ≡ closeAt c itemEnd (whole c) at) where
+  pub walk-done : {q : ℕ} → x ≡ Here q → Gathers c (record { whole = true; parts = parts })
+  walk-done e =
+      let k = sym closes ∙ e in
+      record { told = sym (inv .1 ∙ whole-done c at floor (inv .0) k); held = λ _. gathering-done c at floor (inv .0) parts (inv .2) k }
+
+  module _ (on : x ≡ Not) (y : Read) (reads : y ≡ elementAt c false 4 (length c) at floor) where
+    stops : wholeFrom c at floor ≡ false → Gathers c (record { whole = false; parts = parts })
+    stops e = record { told = sym (inv .1 ∙ e); held = λ t. absurd (clash refl t) }
+
+    pub walk-refused : {n : ℕ} → y ≡ Refused n → Gathers c (record { whole = false; parts = parts })
+    walk-refused e = stops (whole-refused c at floor (inv .0) (sym closes ∙ on) (sym reads ∙ e))
+
+    module _ {q : ℕ} (past : y ≡ Past q) where
+      pub walk-past : (at + 8 ≤ q) × (q ≤ length c)
+      walk-past = element-past c false (length c) at floor (inv .0) 4 (sym reads ∙ past)
+
+      module _ (t : ℕ) (tag : t ≡ tagAt c at) where
+        pub walk-other : 65536 ≤ t → Gathers c (record { whole = false; parts = parts })
+        walk-other h = stops (whole-other c at floor (inv .0) (sym closes ∙ on) (sym reads ∙ past) (rw tag at h))
+
+        pub walk-on : t < 65536 → (head : Head) → head ≡ headAt c false (length c) at floor → (i : ℕ) → i ≡ slotOf t → (p : Part) → p ≡ placed (found head)
+            → (q ≤ length c) × (wholeCommand c ≡ wholeFrom c q (t + 1)) × Gathering c q (t + 1) (set parts i p)
+        walk-on h head eh i ei p ep = (
+          walk-past .1,
+          rw tag (inv .1 ∙ whole-more c at floor (inv .0) (sym closes ∙ on) (sym reads ∙ past) (rw tag at h)),
+          rw (ei, ep, eh, tag) (gathering-more c at floor (inv .0) parts (inv .2) (sym closes ∙ on) (sym reads ∙ past)),
+        )
+
+pub ruleset walks = (walk-refused, walk-other)

@@ -1,11 +1,9 @@
 use Prim.Native.Nat.{_-_, _≤_}
 use native.Mathlib.Omega.{arith}
-use mathlib.Core.Path.{_≡_, refl, sym, _∙_}
+use mathlib.Core.Path.{_≡_}
 use lib.ListN.{length}
-use Rattle.choice.proofs.Picks.{clash}
-use Rattle.elements.proofs.Laws.{element-past}
 use Rattle.commands.specs.Places.{wholeCommand}
-use Rattle.commands.proofs.Gathering.{wholeFrom, whole-start, whole-done, whole-refused, whole-other, whole-more, Gathering, gathering-start, gathering-done, gathering-more}
+use Rattle.commands.proofs.Gathering.{wholeFrom, whole-start, Gathering, gathering-start, walks, walk-done, walk-past, walk-on}
 use borrow.Author.Needs.{needs}
 use Rattle.commands.proofs.gathered.Statement.{statement}
 use Rattle.commands.proofs.gathered.Tie as tie
@@ -19,58 +17,37 @@ abbrev μ-loop : tie.MeasureT-loop
 loop-holds : tie.Need-loop-holds Inv-loop μ-loop
 loop-holds c = (search needs, whole-start _, gathering-start _)
 
+abbrev turn : tie.After-behind Inv-loop μ-loop → tie.At-loop Inv-loop μ-loop
+turn b = b .before .before .before .before .before
+
+abbrev closed : tie.After-behind Inv-loop μ-loop → tie.After-closing Inv-loop μ-loop
+closed b = b .before .before .before .before
+
 returns : tie.Need-returns Inv-loop μ-loop
-returns c =
-    let o = c .before .before .before .loop in
-    let k = sym (c .before .before .closing .ensures) ∙ c .enum-told .given .1 in
-    record {
-      told = sym (o .inv .1 ∙ whole-done _ _ _ (o .inv .0) k);
-      held = λ _. gathering-done _ _ _ (o .inv .0) _ (o .inv .2) k;
-    }
+returns c = walk-done _ _ _ _ (c .before .before .before .loop .inv) _ (c .before .before .closing .ensures) (c .enum-told .given .1)
 
 tag-at-requires : tie.Need-tag-at-requires Inv-loop μ-loop
 tag-at-requires c κs =
-    let o = c .before .before .before .before .before .before .before .before .loop in
-    let past = element-past _ _ _ _ _ (o .inv .0) _ (sym (c .before .before .before .behind .ensures) ∙ c .before .q .given .1) in
+    let b = c .before .before .before in
+    let past = walk-past _ _ _ _ (turn b .loop .inv) _ (closed b .closing .ensures) (b .before .before .enum-told2 .given .1) _ (b .behind .ensures) (c .before .q .given .1) in
     omega arith
 
 returns-2 : tie.Need-returns-2 Inv-loop μ-loop
-returns-2 c =
-    let o = c .before .before .before .before .before .before .before .before .before .before .loop in
-    let k = sym (c .before .before .before .before .before .before .before .before .before .closing .ensures) ∙ c .before .before .before .before .before .before .before .enum-told2 .given .1 in
-    let e = sym (c .before .before .before .before .before .behind .ensures) ∙ c .before .before .before .q .given .1 in
-    record {
-      told = sym (o .inv .1 ∙ whole-other _ _ _ (o .inv .0) k e (rw (c .before .tag-at .ensures .0) at (c .if1 .taken)));
-      held = λ t. absurd (clash refl t);
-    }
+returns-2 c = let b : tie.After-behind Inv-loop μ-loop = search in search (walks, turn b .loop .inv)
 
 loop-less : tie.Need-loop-less Inv-loop μ-loop
 loop-less c =
-    let o = c .before .before .before .before .before .before .before .before .before .before .before .before .loop in
-    let past = element-past _ _ _ _ _ (o .inv .0) _ (sym (c .before .before .before .before .before .before .before .behind .ensures) ∙ c .before .before .before .before .before .q .given .1) in
+    let q : tie.After-q Inv-loop μ-loop = search in
+    let b = q .before .before in
+    let past = walk-past _ _ _ _ (turn b .loop .inv) _ (closed b .closing .ensures) (b .before .before .enum-told2 .given .1) _ (b .behind .ensures) (q .q .given .1) in
     omega arith
 
 loop-again : tie.Need-loop-again Inv-loop μ-loop
 loop-again c =
+    let q : tie.After-q Inv-loop μ-loop = search in
+    let b = q .before .before in
     let t = c .before .before .before in
-    let o = t .before .before .before .before .before .before .before .before .before .loop in
-    let k = sym (t .before .before .before .before .before .before .before .before .closing .ensures) ∙ t .before .before .before .before .before .before .enum-told2 .given .1 in
-    let e = sym (t .before .before .before .before .behind .ensures) ∙ t .before .before .q .given .1 in
-    let d = t .tag-at .ensures .0 in (
-      element-past _ _ _ _ _ (o .inv .0) _ e .1,
-      rw d (o .inv .1 ∙ whole-more _ _ _ (o .inv .0) k e (rw d at (c .before .before .if1 .left))),
-      rw (c .before .slot .ensures .0, c .value-of .ensures, t .before .before .before .before .before .element-head .ensures, d) (gathering-more _ _ _ (o .inv .0) _ (o .inv .2) k e),
-    )
-
-returns-3 : tie.Need-returns-3 Inv-loop μ-loop
-returns-3 c =
-    let o = c .before .before .before .before .before .before .before .loop in
-    let k = sym (c .before .before .before .before .before .before .closing .ensures) ∙ c .before .before .before .before .enum-told2 .given .1 in
-    let e = sym (c .before .before .behind .ensures) ∙ c .enum-told3 .given .1 in
-    record {
-      told = sym (o .inv .1 ∙ whole-refused _ _ _ (o .inv .0) k e);
-      held = λ t. absurd (clash refl t);
-    }
+    walk-on _ _ _ _ (turn b .loop .inv) _ (closed b .closing .ensures) (b .before .before .enum-told2 .given .1) _ (b .behind .ensures) (q .q .given .1) _ (t .tag-at .ensures .0) (c .before .before .if1 .left) _ (b .before .element-head .ensures) _ (c .before .slot .ensures .0) _ (c .value-of .ensures)
 
 pub gathered-spec : {M : Type 1} → statement M
 gathered-spec =
@@ -96,4 +73,4 @@ gathered-spec =
     loop-less
     loop-again
     (λ c. search needs)
-    returns-3)
+    (λ c. search walks))
