@@ -227,6 +227,43 @@ def unstarted():
     return c
 
 
+def book_run():
+    """What crates/rules/proofs/Traced computes: each operation, a film deleted twice, a queue that outlives two closes,
+    and which instance a failed create names; both syntaxes, both depths. No two fields of a record hold the same."""
+    c = Damaged(random.Random(80))
+    c.neat = True
+    c.start("1.9.7", 100, 5)
+    c.open(1, IMPLICIT, 4096)
+    c.create_session(None, 7, [
+        (0x20000010, "IS", b" +7 "), (0x20000020, "CS", b"LOW "), (0x20000030, "CS", b" BLUE FILM"),
+        (0x20000040, "CS", b"PROCESSOR "), (0x20000050, "LO", b"  a  label  ")])
+    film = c.create_film(2, 1, None, [(0x20100040, "CS", b"LANDSCAPE "), (0x20100060, "CS", b"CUBIC ")])
+    c.fill_box(film, 0, 2, c.picture_item(1, 3, False), [(0x20200020, "CS", b"REVERSE ")])
+    c.fill_box(film, 1, 1, c.picture_item(2, 1, True))
+    c.print_film(film)
+    c.set_session([(0x20000010, "IS", b"9 ")], 9)
+    c.move_box(film, 0, 2, True)
+    c.create_film(1, 1, "1.9.70.1")
+    c.print_session()
+    c.take()
+    c.delete_film(film)
+    c.fails(0x0112, c.request(N_DELETE, FILM, film.uid))
+    c.close()
+    c.take()
+    c.open(255, EXPLICIT, 4096)
+    c.create_session("1.9.70.5")
+    c.fails(0x0111, c.request(N_CREATE, SESSION, "1.9.70.5"))
+    c.fails(0x0117, c.request(N_CREATE, SESSION, "1.02"), named=False)
+    c.fails(0x0213, c.request(N_CREATE, SESSION, ""), named=False)
+    c.fails(0x0123, c.request(N_ACTION, SESSION, "1.9.70.5", 2))
+    c.create_film(1, 2)
+    c.delete_session()
+    c.close()
+    c.take()
+    c.take()
+    return c
+
+
 def wild_trace(seed):
     c = Damaged(random.Random(seed))
     c.start("1.9.7", 100, 1)
@@ -261,6 +298,7 @@ def kept_traces():
     yield "wild-1", wild_trace(21)
     yield "wild-2", wild_trace(22)
     yield "unstarted", unstarted()
+    yield "book-run", book_run()
 
 
 def said(name, calls):

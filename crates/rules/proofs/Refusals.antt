@@ -1,26 +1,19 @@
 -- Worked calls: every refusal of every call, computed. They catch the must-fail edits of the definitions.
 -- Assumes nothing.
 use mathlib.Core.Path.{refl}
-use mathlib.Core.List.{List, [], _∷_}
+use mathlib.Core.List.{List, [], _∷_, _++_}
 use Prim.Native.Nat.{ℕ}
 use lib.ListN.{replicate}
-use Rattle.octets.specs.Octets.{bigNumberAt, numberAt, octets, same}
-use Rattle.uids.specs.Uids.{digits, component, components, isUid, lastDigits, decimal, made}
-use Rattle.fields.specs.Format.{readAll}
 use Rattle.strike.specs.Service as service
 use Rattle.strike.specs.Service.{Call, start, feed, close, aside}
-use Rattle.strike.specs.Machine.{headerWrong, fragmentIn, skips, reads, gathers, overflows, stores, collect, laidBy, answered, carriedOut, fed, checked, step, laidIf, messageAfter}
-use Rattle.strike.specs.Machine as machine
-use Rattle.strike.specs.Machine.{idle, Step}
+use Rattle.strike.specs.Machine.{idle, Step, step}
 use Rattle.rules.specs.declared.Core.{Core}
 use Rattle.rules.specs.Text.{chars}
-use Rattle.rules.specs.Lists.{every, any}
-use Rattle.rules.specs.Records.{noEntry, notOpen, withQueue, shelved, queued, filmsOf, entriesOf, rootOf, uidOf}
+use Rattle.rules.specs.Records.{noEntry, notOpen, withQueue}
 use Rattle.rules.specs.Responses.{Reply}
-use Rattle.rules.specs.Calls.{Handed, withOpened, printing, check, started, opened, closed, pictureBytes, entryBytes, taken, reading}
-use Rattle.rules.specs.Layout.{serialFormat, pictureFormat, nameFormat, sessionFormat, boxFormat, layoutFormat, filmFormat, shelfFormat, entryFormat, queueFormat, numbersFormat, openedFormat, coreFormat, inputFormat, stateFormat, unpack, pack}
-use Rattle.rules.specs.Sound.{nameSound, numbersSound, layoutSound, filmSound, shelfSound, entrySound, queueSound, serialsOf, uidsApart, openedSound, coreSound, inputSound, sound}
-use Rattle.rules.specs.Outcomes.{numberOf, closes}
+use Rattle.rules.specs.Calls.{Handed, withOpened, printing}
+use Rattle.rules.specs.Outcomes.{Lent, Feeding, numberOf, starts, opens, closes, takes, feeds}
+use Rattle.rules.proofs.Book.{theBook}
 use Rattle.rules.proofs.Stage.{nothingLive, sessionLive, filmLive, Example, gives, AllHold}
 
 -- what is handed over: nothing but what a call looks at
@@ -38,6 +31,22 @@ answers = room 4096 256 8192 20
 
 abbrev entryOfSize : ℕ → Handed
 entryOfSize n = record { root = []; serial = 0; picture = 0; context = 0; syntax = 0; message = 0; command = 0; dataSet = 0; report = 0; entry = n }
+
+abbrev zeros : List ℕ
+zeros = replicate 7080 0
+
+abbrev short : List ℕ
+short = replicate 7079 0
+
+abbrev lentWith : List ℕ → Lent
+lentWith records = record { records = records; message = 2 ∷ []; command = 3 ∷ []; dataSet = 4 ∷ []; report = 5 ∷ [] }
+
+abbrev fedAll : Feeding → List ℕ
+fedAll f = f .number ∷ (f .records ++ (f .message ++ (f .command ++ (f .dataSet ++ f .report))))
+
+-- records of one byte, 1
+abbrev one : List ℕ
+one = 1 ∷ []
 
 -- records that are not open, and records with sixteen entries
 abbrev shut : Core
@@ -73,8 +82,12 @@ taking k n = numberOf (stepOf k (aside (entryOfSize n)) .answer)
 
 abbrev refusals : List Example
 refusals =
-    -- records: zeros, which break a rule; a byte short
-    gives (closes (replicate 7080 0) answers .number ∷ closes (replicate 7071 0) answers .number ∷ []) (1 ∷ 2 ∷ [])
+    -- records: zeros, which break a rule; a byte short. Start looks at no rule
+    gives (opens zeros answers .number ∷ opens short answers .number ∷ closes zeros answers .number ∷ closes short answers .number ∷ takes zeros [] answers .number ∷ takes short [] answers .number ∷ feeds (lentWith zeros) [] .number ∷ feeds (lentWith short) [] .number ∷ []) (1 ∷ 2 ∷ 1 ∷ 2 ∷ 1 ∷ 2 ∷ 1 ∷ 2 ∷ [])
+    ∷ gives (starts short (handed (chars "1.9.7") 1 1) .number ∷ starts zeros (handed (chars "1.9.7") 0 1) .number ∷ starts zeros (handed (chars "1.9.7") 1 1) .number ∷ []) (2 ∷ 3 ∷ 0 ∷ [])
+    -- "number only, nothing changed"
+    ∷ gives ((starts one answers .number ∷ starts one answers .records) ++ ((opens one answers .number ∷ opens one answers .records) ++ (closes one answers .number ∷ closes one answers .records))) (2 ∷ 1 ∷ 2 ∷ 1 ∷ 2 ∷ 1 ∷ [])
+    ∷ gives ((takes one (6 ∷ []) answers .number ∷ (takes one (6 ∷ []) answers .records ++ takes one (6 ∷ []) answers .entry)) ++ fedAll (feeds (lentWith one) [])) (2 ∷ 1 ∷ 6 ∷ 2 ∷ 1 ∷ 2 ∷ 3 ∷ 4 ∷ 5 ∷ [])
     -- start: a bad root, a root of 41 characters, numbers 0; done
     ∷ gives (starting (chars "1.02") ∷ starting long ∷ startingAt 0 1 ∷ startingAt 1 0 ∷ startingAt 1 1 ∷ []) (3 ∷ 3 ∷ 3 ∷ 3 ∷ 0 ∷ [])
     -- open: message buffers out of limits; a bad context, a bad syntax; done
@@ -94,5 +107,5 @@ refusals =
     ∷ []
 
 pub refusals-hold : AllHold refusals
-unfolding headerWrong fragmentIn skips reads gathers overflows stores collect laidBy answered carriedOut fed checked step laidIf messageAfter check started opened closed pictureBytes entryBytes taken reading bigNumberAt numberAt octets same digits component components isUid chars every any shelved queued filmsOf entriesOf rootOf uidOf numberOf lastDigits decimal made closes readAll serialFormat pictureFormat nameFormat sessionFormat boxFormat layoutFormat filmFormat shelfFormat entryFormat queueFormat numbersFormat openedFormat coreFormat inputFormat stateFormat unpack pack nameSound numbersSound layoutSound filmSound shelfSound entrySound queueSound serialsOf uidsApart openedSound coreSound inputSound sound
-refusals-hold = (refl, (refl, (refl, (refl, (refl, (refl, (refl, (refl, (refl, tt)))))))))
+unfolding theBook
+refusals-hold = (refl, (refl, (refl, (refl, (refl, (refl, (refl, (refl, (refl, (refl, (refl, (refl, tt))))))))))))

@@ -2,17 +2,58 @@
 -- Assumes nothing.
 use mathlib.Core.Path.{_≡_}
 use mathlib.Core.Bool.{false}
-use mathlib.Core.List.{List, [], _∷_, map}
-use Prim.Native.Nat.{ℕ}
+use mathlib.Core.List.{List, [], _∷_, _++_, map}
+use Prim.Native.Nat.{ℕ, _+_, _*_, _-_}
+use Prim.Native.String.{String}
+use lib.Dec.{ltb}
+use lib.ListN.{length, replicate}
+use Rattle.choice.specs.Pick.{pick}
+use Rattle.choice.specs.Rules.{firstBroken}
 use Rattle.strike.specs.Service.{Result, fails, does}
 use Rattle.rules.specs.declared.Core.{Core}
+use Rattle.rules.specs.declared.ImageBox.{ImageBox}
 use Rattle.rules.specs.declared.Film.{Film}
+use Rattle.rules.specs.declared.Session.{Session}
 use Rattle.rules.specs.Text.{chars}
 use Rattle.rules.specs.Lists.{filledTo}
-use Rattle.rules.specs.Records.{serial, madeName, sentName, shelved, queued, noSession, newSession, noBox}
-use Rattle.rules.specs.Attributes.{layoutFrom}
+use Rattle.rules.specs.Records.{noName, serial, madeName, sentName, shelved, queued, noSession, newSession, noBox, noEntry, withFilms, withQueue}
+use Rattle.rules.specs.Attributes.{Listing, listingOf, Standing, attributeRules, layoutFrom}
 use Rattle.rules.specs.Responses.{Reply}
-use Rattle.rules.specs.Effects.{newBox, renamed}
+use Rattle.rules.specs.Effects.{newBox, renamed, withBoxes}
+
+-- bytes, as two hexadecimal digits each
+abbrev digit : ℕ → ℕ
+digit c = pick (ltb c 58) (c - 48) (c - 87)
+
+abbrev paired : List ℕ → List ℕ
+paired [] = []
+paired (a ∷ []) = []
+paired (a ∷ (b ∷ s)) = (16 * digit a + digit b) ∷ paired s
+
+abbrev pub hex : String → List ℕ
+hex text = paired (chars text)
+
+-- an element in implicit VR: its tag as it stands in bytes, and its value, of fewer than 256 bytes
+abbrev pub element : String → List ℕ → List ℕ
+element tag value = hex tag ++ (length value ∷ 0 ∷ 0 ∷ 0 ∷ value)
+
+abbrev pub text : String → String → List ℕ
+text tag value = element tag (chars value)
+
+abbrev pub joined : List (List ℕ) → List ℕ
+joined [] = []
+joined (e ∷ es) = e ++ joined es
+
+abbrev pub implicit : List ℕ → Listing
+implicit d = listingOf d false
+
+-- check 8's status for attributes that stand so, 0 where it lets them pass
+abbrev pub judged : List Standing → ℕ
+judged standings = firstBroken (attributeRules standings)
+
+-- a session of values that no data set gives
+abbrev pub someSession : Session
+someSession = record { live = 1; name = noName; copies = 50; priority = 51; medium = 52; destination = 53; used = 2; label = 54 ∷ 55 ∷ replicate 62 0 }
 
 -- records after a start with root 1.9.7 and an open, in implicit VR
 abbrev pub nothingLive : Core
@@ -53,6 +94,43 @@ filmLive = record {
   queue = queued [];
   opened = nothingLive .opened;
 }
+
+-- more records: eight films; serials and pictures that run out; a full queue; boxes filled
+abbrev pub withNumbersOf : ℕ → ℕ → Core → Core
+withNumbersOf serial picture k = record {
+  numbers = record { used = k .numbers .used; root = k .numbers .root; serial = serial; picture = picture; ticket = k .numbers .ticket };
+  session = k .session;
+  shelf = k .shelf;
+  queue = k .queue;
+  opened = k .opened;
+}
+
+abbrev pub eightFilms : Core
+eightFilms = withFilms (replicate 8 theFilm) filmLive
+
+-- six serials are left, and seven are asked for
+abbrev pub fewSerials : Core
+fewSerials = withNumbersOf 4294967290 1 sessionLive
+
+abbrev pub noPictures : Core
+noPictures = withNumbersOf 107 4294967296 filmLive
+
+abbrev pub queueFull : Core
+queueFull = withQueue (replicate 16 noEntry) filmLive
+
+abbrev pub filledBox : ℕ → ℕ → ImageBox
+filledBox position n = record { position = position; polarity = 0; picture = record { 0 = n } }
+
+abbrev pub boxesThen : List ImageBox → Core
+boxesThen boxes = withNumbersOf 107 3 (withFilms (withBoxes (filledTo 36 noBox boxes) theFilm ∷ []) filmLive)
+
+-- box 2 holds picture 1 at position 2
+abbrev pub onePicture : Core
+onePicture = boxesThen (newBox 1 ∷ filledBox 2 1 ∷ newBox 3 ∷ newBox 4 ∷ newBox 5 ∷ newBox 6 ∷ [])
+
+-- boxes 2 and 3 hold pictures at position 2
+abbrev pub collided : Core
+collided = boxesThen (newBox 1 ∷ filledBox 2 1 ∷ filledBox 2 2 ∷ newBox 4 ∷ newBox 5 ∷ newBox 6 ∷ [])
 
 abbrev pub status : Result Core Reply → ℕ
 status (fails r) = r .status

@@ -4,74 +4,22 @@ use mathlib.Core.Path.{refl}
 use mathlib.Core.Bool.{true, false}
 use mathlib.Core.List.{List, [], _∷_, _++_}
 use Prim.Native.Nat.{ℕ}
-use lib.ListN.{getD, replicate}
+use lib.ListN.{getD}
 use Rattle.strike.specs.Service.{noData, whole, tooLong, Result, fails, does}
 use Rattle.rules.specs.declared.Core.{Core}
-use Rattle.rules.specs.declared.ImageBox.{ImageBox}
 use Rattle.rules.specs.declared.Film.{Film}
 use Rattle.rules.specs.declared.Queue.{Queue}
-use Rattle.rules.specs.Lists.{filledTo}
-use Rattle.rules.specs.Records.{noBox, noEntry, withFilms, withQueue}
-use Rattle.rules.specs.Attributes.{listingOf}
-use Rattle.rules.specs.Responses.{Note, noNote, filmsQueued, pictureAt, Reply}
-use Rattle.rules.specs.Effects.{newBox, filmAt, withBoxes}
-use Rattle.rules.proofs.Messages.{get, foreign, createBox, createSession, createLive, createFilm, setSession, setNobody, setOther, setFilm, setBox, actTwo, printSession, printFilm, deleteSession, cutShort, noFormat, emptyFormat, film23, landscape, emptyInSet, low, moved, seventh, picture, shortPicture, oddPicture, erased, twoItems}
-use Rattle.rules.proofs.Stage.{sessionLive, theFilm, filmLive, status, after, Example, gives, AllHold}
-use Rattle.octets.specs.Octets.{numberAt, bigNumberAt, octets, same}
-use Rattle.uids.specs.Uids.{digits, component, components, isUid, unpadded, beginsWith, lastDigits, decimal, made}
-use Rattle.tags.specs.Table.{namedVr, formOf, implicitVr, differs}
-use Rattle.headers.specs.Header.{tagAt, sizeAt, vrAt, lengthAt, vrWrong, lengthHead, headAt, itemHeadAt, closeAt}
-use Rattle.elements.specs.Find.{elementsFrom, itemsOf, findAt, itemsAt}
-use Rattle.elements.specs.Walk.{walk, trail}
-use Rattle.elements.specs.Reader.{listStep, listFrom, itemWith, itemStep, itemsFrom, elementAt, listAt, itemAt, dataSet}
-use Rattle.writing.specs.Bytes.{padded, tagOctets, vrOctets, headerSize, plain, header, element, written, writtenItems}
-use Rattle.rules.specs.Effects.{sessionCreated, newFilm, filmCreated, sessionSet, filmSet, boxSet, sessionDeleted, filmDeleted, pictureOn, entryOf, entriesFor, ticketAfter, printed, filledBoxes}
-use Rattle.rules.specs.Checks.{classOf, generalRules, createRules, targetRules, createPlan, setPlan, actionPlan, deletePlan, planOf, decideRequest, decide}
 use Rattle.rules.specs.Text.{chars}
-use Rattle.rules.specs.Lists.{every, any, placeOf, apart, sum, from}
-use Rattle.rules.specs.Commands.{bytesOf, uidAt, groupZero, lengthTold, wellFormed, hasData, requestIn, understood}
-use Rattle.rules.specs.Records.{rootOf, uidOf, boxCount, boxesOf, filmsOf, shelved, entriesOf, queued, boxUids, named}
-use Rattle.rules.specs.Responses.{responseElements, responseTree, reply, boxItems, filmTree}
-use Rattle.rules.specs.Positions.{spotOf, rowOf, columnOf}
-use Rattle.rules.specs.Values.{withoutLeading, withoutTrailing, trimmed, blank, withoutPlus, decimalValue, countIn, codeIn, labelAllowed, standard, listed, numbersIn, uneven, byColumns, countsIn}
-use Rattle.rules.specs.Attributes.{sessionStandings, sessionWith, optionalFilm, filmCreateStandings, filmSetStandings, filmWith, layoutFrom, layoutIn, imageStandings, imageIn, boxStandings, boxWith}
-
--- more records: eight films; serials and pictures that run out; a full queue; boxes filled
-abbrev withNumbersOf : ℕ → ℕ → Core → Core
-withNumbersOf serial picture k = record {
-  numbers = record { used = k .numbers .used; root = k .numbers .root; serial = serial; picture = picture; ticket = k .numbers .ticket };
-  session = k .session;
-  shelf = k .shelf;
-  queue = k .queue;
-  opened = k .opened;
-}
-
-abbrev eightFilms : Core
-eightFilms = withFilms (replicate 8 theFilm) filmLive
-
--- six serials are left, and seven are asked for
-abbrev fewSerials : Core
-fewSerials = withNumbersOf 4294967290 1 sessionLive
-
-abbrev noPictures : Core
-noPictures = withNumbersOf 107 4294967296 filmLive
-
-abbrev queueFull : Core
-queueFull = withQueue (replicate 16 noEntry) filmLive
-
-abbrev filledBox : ℕ → ℕ → ImageBox
-filledBox position n = record { position = position; polarity = 0; picture = record { 0 = n } }
-
-abbrev boxesThen : List ImageBox → Core
-boxesThen boxes = withNumbersOf 107 3 (withFilms (withBoxes (filledTo 36 noBox boxes) theFilm ∷ []) filmLive)
-
--- box 2 holds picture 1 at position 2
-abbrev onePicture : Core
-onePicture = boxesThen (newBox 1 ∷ filledBox 2 1 ∷ newBox 3 ∷ newBox 4 ∷ newBox 5 ∷ newBox 6 ∷ [])
-
--- boxes 2 and 3 hold pictures at position 2
-abbrev collided : Core
-collided = boxesThen (newBox 1 ∷ filledBox 2 1 ∷ filledBox 2 2 ∷ newBox 4 ∷ newBox 5 ∷ newBox 6 ∷ [])
+use Rattle.rules.specs.Values.{byColumns, countsIn}
+use Rattle.rules.specs.Positions.{rowOf, columnOf}
+use Rattle.rules.specs.Records.{noBox, noEntry}
+use Rattle.rules.specs.Attributes.{listingOf, layoutFrom, layoutIn}
+use Rattle.rules.specs.Responses.{Note, noNote, filmsQueued, pictureAt, Reply}
+use Rattle.rules.specs.Effects.{filmAt}
+use Rattle.rules.specs.Checks.{decide}
+use Rattle.rules.proofs.Messages.{get, foreign, createBox, createSession, createLive, createFilm, setSession, setNobody, setOther, setFilm, setBox, actTwo, printSession, printFilm, deleteSession, cutShort, noFormat, emptyFormat, film23, landscape, emptyInSet, low, moved, seventh, picture, shortPicture, oddPicture, erased, twoItems}
+use Rattle.rules.proofs.Book.{theBook}
+use Rattle.rules.proofs.Stage.{sessionLive, filmLive, eightFilms, fewSerials, noPictures, queueFull, onePicture, collided, status, after, Example, gives, AllHold}
 
 abbrev filmAfter : Core → List ℕ → List ℕ → Film
 filmAfter k c d = filmAt (after k (decide k c (whole d))) 0
@@ -156,5 +104,5 @@ worked =
     ∷ []
 
 pub worked-hold : AllHold worked
-unfolding numberAt bigNumberAt octets same digits component components isUid unpadded beginsWith lastDigits decimal made namedVr formOf implicitVr differs tagAt sizeAt vrAt lengthAt vrWrong lengthHead headAt itemHeadAt closeAt elementsFrom itemsOf findAt itemsAt walk trail listStep listFrom itemWith itemStep itemsFrom elementAt listAt itemAt dataSet padded tagOctets vrOctets headerSize plain header element written writtenItems sessionCreated newFilm filmCreated sessionSet filmSet boxSet sessionDeleted filmDeleted pictureOn entryOf entriesFor ticketAfter printed filledBoxes classOf generalRules createRules targetRules createPlan setPlan actionPlan deletePlan planOf decideRequest decide chars every any placeOf apart sum from bytesOf uidAt groupZero lengthTold wellFormed hasData requestIn understood rootOf uidOf boxCount boxesOf filmsOf shelved entriesOf queued boxUids named responseElements responseTree reply boxItems filmTree withoutLeading withoutTrailing trimmed blank withoutPlus decimalValue countIn codeIn labelAllowed standard listed numbersIn uneven countsIn spotOf sessionStandings sessionWith optionalFilm filmCreateStandings filmSetStandings filmWith layoutIn imageStandings imageIn boxStandings boxWith
+unfolding theBook
 worked-hold = (refl, (refl, (refl, (refl, (refl, (refl, (refl, (refl, (refl, (refl, (refl, (refl, (refl, (refl, (refl, (refl, (refl, (refl, (refl, (refl, (refl, (refl, (refl, (refl, tt))))))))))))))))))))))))

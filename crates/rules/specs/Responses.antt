@@ -1,11 +1,11 @@
 -- Requests: the response, and the created film's data set.
 use Prim.Native.Nat.{ℕ, _+_}
-use mathlib.Core.Bool.{false}
+use mathlib.Core.Bool.{Bool, false}
 use mathlib.Core.List.{List, [], _∷_}
 use mathlib.Core.Option.{Option, none, some}
 use lib.Dec.{eqb}
 use lib.ListN.{length}
-use Rattle.choice.specs.Pick.{pick}
+use Rattle.choice.specs.Pick.{pick, either, not}
 use Rattle.octets.specs.Octets.{octets}
 use Rattle.tags.specs.Table.{UI, UL, US}
 use Rattle.writing.specs.Tree.{Elements, noElements, value, sequence, Items, noItems, item}
@@ -25,6 +25,14 @@ pub data Note : Type 0 where
   noNote : Note
   filmsQueued : ℕ → Note
   pictureAt : ℕ → ℕ → ℕ → Note
+
+-- "warning B602H (session) or B603H (film)"
+abbrev pub isWarning : ℕ → Bool
+isWarning status = either (eqb status 0xB602) (eqb status 0xB603)
+
+-- a status that is neither 0000H nor a warning
+abbrev pub isFailure : ℕ → Bool
+isFailure status = not (either (eqb status 0x0000) (isWarning status))
 
 pub record Reply : Type 0 where
   pub status : ℕ

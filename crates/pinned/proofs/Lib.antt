@@ -1,0 +1,5 @@
+-- More of the book, computed.
+mod Requests
+mod Pictures
+mod Places
+mod Collecting
