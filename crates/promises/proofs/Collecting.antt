@@ -1,16 +1,16 @@
--- The message half collected: it fits its buffers, and every call keeps that.
+-- The message half collected: it fits its buffers, every call keeps that, and its data is read from the message buffer.
 -- Assumes nothing.
-use Prim.Native.Nat.{ℕ, _≤_}
+use Prim.Native.Nat.{ℕ, zero, suc, _≤_}
 use mathlib.Core.Path.{_≡_, refl, sym, ap, _∙_}
 use mathlib.Core.Bool.{Bool, true, false}
 use mathlib.Core.Option.{Option, none, some}
 use mathlib.Core.List.{List, [], _∷_, _++_}
 use native.Mathlib.Omega.{arith}
 use borrow.Author.Tests.{leb-true, le-leb, eqb-true}
-use lib.Dec.{eqb, leb}
+use lib.Dec.{eqb, leb, ltb}
 use lib.ListN.{length, take, drop, length-take}
-use Rattle.choice.specs.Pick.{pick, both}
-use Rattle.choice.proofs.Picks.{Kept, not-false, not-true, both-true, both-holds}
+use Rattle.choice.specs.Pick.{pick, both, either, not}
+use Rattle.choice.proofs.Picks.{Kept, pick-cases, not-false, not-true, both-true, both-holds, both-second, either-false}
 use Rattle.strike.specs.Service.{DataSet, noData, whole, tooLong, Result, fails, does, Call, start, opening, feed, close, aside, passes}
 use Rattle.strike.specs.Machine as machine
 use Rattle.strike.specs.Machine.{Fragment, command, dataset, fragmentIn, idle, inCommand, skippingCommand, inData, skippingData}
@@ -22,7 +22,7 @@ use Rattle.rules.specs.declared.Core.{Core}
 use Rattle.rules.specs.declared.Input.{Input}
 use Rattle.rules.specs.declared.Command.{Command}
 use Rattle.rules.specs.declared.Command.the-variants.{Unreadable, Unknown, Known}
-use Rattle.rules.specs.Bounds.{commandLimit}
+use Rattle.rules.specs.Bounds.{commandLimit, leastRoom, mostRoom}
 use Rattle.rules.specs.Lists.{filledTo}
 use Rattle.rules.specs.Records.{isOpen}
 use Rattle.rules.specs.Commands.{hasData, understood}
@@ -235,6 +235,31 @@ module _ (o : Opened) (i : Input) (message : List ℕ) where
   in-fits e =
       let r = all-true _ e in
       in-fits-if (eqb (i .phase) 1) (eqb (i .phase) 2) (eqb (i .phase) 3) (eqb (i .phase) 4) refl refl refl refl (r .0) (r .1 .0) (r .1 .1 .1 .0)
+
+-- The data that the records say lies in the message buffer is read from there.
+
+take-taken : (n : ℕ) (xs : List ℕ) → take (length (take n xs)) xs ≡ take n xs
+take-taken zero xs = refl
+take-taken (suc n) [] = refl
+take-taken (suc n) (x ∷ xs) = ap (λ (rest : List ℕ). x ∷ rest) (take-taken n xs)
+
+pub view-lies : (i : Input) (message : List ℕ) → Lies (inputIn i message) message
+unfolding inputIn
+view-lies i message =
+    let So : machine.Input → Type 0 = λ (x : machine.Input). Lies x message in
+    pick-cases So (eqb (i .phase) 1) (inCommand (commandHeld i)) _ (λ e. tt)
+    (λ e. pick-cases So (eqb (i .phase) 2) skippingCommand _ (λ f. tt)
+    (λ f. pick-cases So (eqb (i .phase) 3) (inData (commandHeld i) (take (i .got) message)) _ (λ g. take-taken (i .got) message)
+    (λ g. pick-cases So (eqb (i .phase) 4) (skippingData (commandHeld i)) idle (λ j. tt) (λ j. tt))))
+
+-- a feed that is not refused has a message buffer of the length that the open fixed
+pub room-told : (k : Core) (h : Handed) → Kept (feedRules k h) → k .opened .room ≡ h .message
+room-told k h rules =
+    let limits = either (ltb (h .message) leastRoom) (ltb mostRoom (h .message)) in
+    let other = not (eqb (h .message) (k .opened .room)) in
+    let wrong = either-false limits (both (isOpen k) other) (rules .0) .1 in
+    let live = not-false (isOpen k) (rules .1 .1 .1 .1 .0) in
+    sym (eqb-true (h .message) (k .opened .room) (not-false (eqb (h .message) (k .opened .room)) (both-second (isOpen k) other wrong live)))
 
 -- what is held is read back, where the data lies in the message buffer
 pub held-in : (i : machine.Input) (message : List ℕ) → Lies i message → inputIn (inputHeld i) message ≡ i

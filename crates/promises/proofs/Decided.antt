@@ -40,6 +40,11 @@ pub record After (P : Core → Type 0) (k : Core) : Type 0 where
   pub noSession : (uid : List ℕ) → named k uid ≡ theSession → P (sessionDeleted k)
   pub noFilm : (uid : List ℕ) (i : ℕ) → named k uid ≡ theFilm i → P (filmDeleted k i)
 
+-- the reply that a request comes to
+abbrev pub replyOf : Result Core Reply → Reply
+replyOf (fails r) = r
+replyOf (does k r) = r
+
 -- a fact of what a request comes to: a failure has no records of its own
 abbrev pub OfDone : (Core → Type 0) → Result Core Reply → Type 0
 OfDone P (fails r) = Unit {0}

@@ -2,17 +2,19 @@
 -- Assumes nothing.
 use Prim.Native.Nat.{ℕ, _+_, _≤_}
 use mathlib.Core.Path.{_≡_, ap, _∙_}
-use mathlib.Core.Bool.{true}
+use mathlib.Core.Bool.{Bool, true, false}
 use mathlib.Core.List.{List}
 use native.Mathlib.Omega.{arith}
-use lib.Dec.{leb, ltb}
+use lib.Dec.{eqb, leb, ltb}
 use lib.ListN.{length, take, drop, length-take}
-use borrow.Author.Tests.{leb-true, le-leb}
+use borrow.Author.Tests.{leb-true, le-leb, ltb-true}
 use Rattle.choice.specs.Pick.{pick}
 use Rattle.choice.proofs.Picks.{both-true, both-holds}
 use Rattle.octets.specs.Octets.{same}
-use Rattle.uids.specs.Uids.{isUid}
+use Rattle.uids.specs.Uids.{isUid, made}
+use Rattle.uids.proofs.Made.{made-uid}
 use Rattle.rules.specs.Bounds.{mostFilms, mostEntries, rootLimit, noneLeft}
+use Rattle.rules.specs.declared.Name.{Name}
 use Rattle.rules.specs.declared.Session.{Session}
 use Rattle.rules.specs.declared.ImageBox.{ImageBox}
 use Rattle.rules.specs.declared.Film.{Film}
@@ -23,8 +25,8 @@ use Rattle.rules.specs.declared.Numbers.{Numbers}
 use Rattle.rules.specs.declared.Core.{Core}
 use Rattle.rules.specs.Lists.{every}
 use Rattle.rules.specs.Values.{trimmed, labelAllowed}
-use Rattle.rules.specs.Records.{rootOf, boxCount, boxesOf, filmsOf, entriesOf, isLive, shelved, queued}
-use Rattle.rules.specs.Sound.{between, zeros, flag, nameSound, numbersSound, sessionSound, sessionBlank, layoutSound, boxSound, boxBlank, filmSound, filmBlank, shelfSound, entrySound, entryBlank, queueSound, uidsApart, openedSound, coreSound}
+use Rattle.rules.specs.Records.{rootOf, uidOf, boxCount, boxesOf, filmsOf, entriesOf, isLive, shelved, queued}
+use Rattle.rules.specs.Sound.{between, zeros, flag, sentSound, madeSound, nameSound, numbersSound, sessionSound, sessionBlank, layoutSound, boxSound, boxBlank, filmSound, filmBlank, shelfSound, entrySound, entryBlank, queueSound, uidsApart, openedSound, coreSound}
 use Rattle.promises.proofs.ListLaws.{all-true, all-holds, films-behind, entries-behind, films-shelved, entries-queued}
 
 pub between-true : (low high n : ℕ) → between low high n ≡ true → (low ≤ n) × (n ≤ high)
@@ -86,6 +88,23 @@ numbers-sound n f = all-holds _ (f .used, (f .root, (f .behind, (f .serial, (f .
 -- a root has room for a dot and a serial behind it
 pub root-short : (k : Core) → coreSound k ≡ true → k .numbers .used ≤ 40
 root-short k e = between-true 1 40 (k .numbers .used) (numbers-facts (k .numbers) (core-facts k e .numbers) .used) .1
+
+pub root-fits : (n : Numbers) → numbersSound n ≡ true → length (rootOf n) ≤ rootLimit
+unfolding rootOf
+root-fits n e = omega (arith, length-take (n .used) (n .root), between-true 1 rootLimit (n .used) (numbers-facts n e .used) .1)
+
+-- a name, made or sent, is a UID
+pub name-uid : (n : Numbers) (name : Name) → numbersSound n ≡ true → nameSound n name ≡ true → isUid (uidOf n name) ≡ true
+unfolding nameSound uidOf
+name-uid n name e h = by (eqb (name .made .0) 0) h
+  where
+    by : (sent : Bool) → pick sent (sentSound n name) (madeSound n name) ≡ true → isUid (pick sent (take (name .used) (name .text)) (made (rootOf n) (name .made .0))) ≡ true
+    by true h = all-true _ h .1 .0
+    by false h =
+        let f = numbers-facts n e in
+        let below = ltb-true (name .made .0) (n .serial) (all-true _ h .0) in
+        let most = between-true 1 noneLeft (n .serial) (f .serial) .1 in
+        made-uid (rootOf n) (name .made .0) (f .root) (root-fits n e) (omega arith)
 
 -- The films.
 

@@ -6,31 +6,17 @@ use mathlib.Core.Bool.{true, false}
 use mathlib.Core.List.{List, [], _∷_, map}
 use Prim.Native.Nat.{ℕ}
 use Rattle.strike.specs.Service.{Call, feed}
-use Rattle.strike.specs.Machine.{headerWrong, fragmentIn, skips, reads, gathers, overflows, stores, collect, laidBy, answered, carriedOut, fed, checked, step, laidIf, messageAfter}
+use Rattle.strike.specs.Machine.{stores}
 use Rattle.strike.specs.Machine as machine
 use Rattle.strike.specs.Machine.{idle, Answer}
 use Rattle.strike.specs.Messages.{answers}
 use Rattle.strike.proofs.Fakes.{dropsAll, failsAll, oneReply, storesNone, storesFirst}
+use Rattle.rules.proofs.Book.{theBook}
 use Rattle.rules.specs.Responses.{Reply}
-use Rattle.rules.specs.Calls.{Handed, printing, check, started, opened, closed, pictureBytes, entryBytes, taken, reading}
+use Rattle.rules.specs.Calls.{Handed, printing}
 use Rattle.rules.proofs.Stage.{nothingLive}
-use Rattle.octets.specs.Octets.{numberAt, bigNumberAt, octets, same}
-use Rattle.uids.specs.Uids.{digits, component, components, isUid, unpadded, beginsWith, lastDigits, decimal, made}
-use Rattle.tags.specs.Table.{namedVr, formOf, implicitVr, differs}
-use Rattle.headers.specs.Header.{tagAt, sizeAt, vrAt, lengthAt, vrWrong, lengthHead, headAt, itemHeadAt, closeAt}
-use Rattle.elements.specs.Find.{elementsFrom, itemsOf, findAt, itemsAt}
-use Rattle.elements.specs.Walk.{walk, trail}
-use Rattle.elements.specs.Reader.{listStep, listFrom, itemWith, itemStep, itemsFrom, elementAt, listAt, itemAt, dataSet}
-use Rattle.writing.specs.Bytes.{padded, tagOctets, vrOctets, headerSize, plain, header, element, written, writtenItems}
-use Rattle.rules.specs.Effects.{sessionCreated, newFilm, filmCreated, sessionSet, filmSet, boxSet, sessionDeleted, filmDeleted, pictureOn, entryOf, entriesFor, ticketAfter, printed, filledBoxes}
-use Rattle.rules.specs.Checks.{classOf, generalRules, createRules, targetRules, createPlan, setPlan, actionPlan, deletePlan, planOf, decideRequest, decide}
-use Rattle.rules.specs.Text.{chars}
-use Rattle.rules.specs.Lists.{every, any, placeOf, apart, sum, from}
-use Rattle.rules.specs.Commands.{bytesOf, uidAt, groupZero, lengthTold, wellFormed, hasData, requestIn, understood}
-use Rattle.rules.specs.Records.{rootOf, uidOf, boxCount, boxesOf, filmsOf, shelved, entriesOf, queued, boxUids, named}
-use Rattle.rules.specs.Responses.{responseElements, responseTree, reply, boxItems, filmTree}
-use Rattle.rules.specs.Values.{withoutLeading, withoutTrailing, trimmed, blank, withoutPlus, decimalValue, countIn, codeIn, labelAllowed, standard, listed, numbersIn, uneven, countsIn}
-use Rattle.rules.specs.Attributes.{sessionStandings, sessionWith, optionalFilm, filmCreateStandings, filmSetStandings, filmWith, layoutIn, imageStandings, imageIn, boxStandings, boxWith}
+use Rattle.elements.specs.Reader.{dataSet}
+use Rattle.rules.specs.Responses.{reply}
 
 -- C-ECHO, number 7, in one fragment
 abbrev echo7 : List ℕ
@@ -111,7 +97,7 @@ kind (failedWith n) = 2
 
 pub replies-told-apart : (r : Reply) → (map kind (book (echo7 ∷ [])) ≡ 1 ∷ []) × (map kind (fails r (echo7 ∷ [])) ≡ 2 ∷ [])
     × (map kind (book (deletes ∷ [])) ≡ 2 ∷ []) × (map kind (fixed r (deletes ∷ [])) ≡ 1 ∷ [])
-unfolding numberAt bigNumberAt octets same digits component components isUid unpadded beginsWith lastDigits decimal made namedVr formOf implicitVr differs tagAt sizeAt vrAt lengthAt vrWrong lengthHead headAt itemHeadAt closeAt elementsFrom itemsOf findAt itemsAt walk trail listStep listFrom itemWith itemStep itemsFrom elementAt listAt itemAt dataSet padded tagOctets vrOctets headerSize plain header element written writtenItems sessionCreated newFilm filmCreated sessionSet filmSet boxSet sessionDeleted filmDeleted pictureOn entryOf entriesFor ticketAfter printed filledBoxes classOf generalRules createRules targetRules createPlan setPlan actionPlan deletePlan planOf decideRequest decide chars every any placeOf apart sum from bytesOf uidAt groupZero lengthTold wellFormed hasData requestIn understood rootOf uidOf boxCount boxesOf filmsOf shelved entriesOf queued boxUids named responseElements responseTree reply boxItems filmTree withoutLeading withoutTrailing trimmed blank withoutPlus decimalValue countIn codeIn labelAllowed standard listed numbersIn uneven countsIn sessionStandings sessionWith optionalFilm filmCreateStandings filmSetStandings filmWith layoutIn imageStandings imageIn boxStandings boxWith headerWrong fragmentIn skips reads gathers overflows stores collect laidBy answered carriedOut fed checked step laidIf messageAfter check started opened closed pictureBytes entryBytes taken reading answers
+unfolding theBook answers
 replies-told-apart r = (refl, refl, refl, refl)
 
 -- one that drops everything, and one that responds rightly but stores nothing, at once or after the first message
@@ -119,5 +105,5 @@ pub told-apart : (book (echo7 ∷ []) ≡ succeededWith 0x0000 ∷ []) × (drops
     × (book (makes ∷ makes ∷ []) ≡ succeededWith 0x0000 ∷ failedWith 0x0111 ∷ []) × (none (makes ∷ makes ∷ []) ≡ succeededWith 0x0000 ∷ succeededWith 0x0000 ∷ [])
     × (book (makes ∷ deletes ∷ deletes ∷ []) ≡ succeededWith 0x0000 ∷ succeededWith 0x0000 ∷ failedWith 0x0112 ∷ [])
     × (first (makes ∷ deletes ∷ deletes ∷ []) ≡ succeededWith 0x0000 ∷ succeededWith 0x0000 ∷ succeededWith 0x0000 ∷ [])
-unfolding numberAt bigNumberAt octets same digits component components isUid unpadded beginsWith lastDigits decimal made namedVr formOf implicitVr differs tagAt sizeAt vrAt lengthAt vrWrong lengthHead headAt itemHeadAt closeAt elementsFrom itemsOf findAt itemsAt walk trail listStep listFrom itemWith itemStep itemsFrom elementAt listAt itemAt dataSet padded tagOctets vrOctets headerSize plain header element written writtenItems sessionCreated newFilm filmCreated sessionSet filmSet boxSet sessionDeleted filmDeleted pictureOn entryOf entriesFor ticketAfter printed filledBoxes classOf generalRules createRules targetRules createPlan setPlan actionPlan deletePlan planOf decideRequest decide chars every any placeOf apart sum from bytesOf uidAt groupZero lengthTold wellFormed hasData requestIn understood rootOf uidOf boxCount boxesOf filmsOf shelved entriesOf queued boxUids named responseElements responseTree reply boxItems filmTree withoutLeading withoutTrailing trimmed blank withoutPlus decimalValue countIn codeIn labelAllowed standard listed numbersIn uneven countsIn sessionStandings sessionWith optionalFilm filmCreateStandings filmSetStandings filmWith layoutIn imageStandings imageIn boxStandings boxWith headerWrong fragmentIn skips reads gathers overflows stores collect laidBy answered carriedOut fed checked step laidIf messageAfter check started opened closed pictureBytes entryBytes taken reading answers
+unfolding theBook answers
 told-apart = (refl, refl, refl, refl, refl, refl)

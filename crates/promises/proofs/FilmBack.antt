@@ -1,14 +1,15 @@
 -- The data set of a created film is read back: one item a box, and the i-th names the i-th of the UIDs that were made for its boxes; it fits its buffer.
--- Assumes nothing but that the root has at most 40 characters, where UIDs are made of it.
+-- Assumes nothing.
 use Prim.Native.Nat.{ℕ, zero, suc, _+_, _<_, _≤_}
 use mathlib.Core.Path.{_≡_, refl, sym, ap, _∙_, subst}
-use mathlib.Core.Bool.{Bool, true}
-use mathlib.Core.List.{List, [], _∷_, map}
+use mathlib.Core.Bool.{Bool, true, false}
+use mathlib.Core.List.{List, [], _∷_}
 use native.Mathlib.Omega.{arith}
 use lib.ListN.{length, getD}
+use borrow.Author.Tests.{ltb-false}
 use Rattle.octets.proofs.Laid.{Stands}
 use Rattle.uids.specs.Uids.{digits, component, components, isUid, unpadded, made}
-use Rattle.uids.proofs.Made.{made-short, made-uid}
+use Rattle.uids.proofs.Made.{made-uid}
 use Rattle.headers.specs.declared.Inside.{Inside}
 use Rattle.headers.specs.declared.Head.the-variants.{Nest}
 use Rattle.tags.specs.Table.{SQ, UI}
@@ -29,18 +30,21 @@ use Rattle.writing.proofs.RoundTrip.{ReadBack, round-trip}
 use Rattle.rules.specs.declared.Film.{Film}
 use Rattle.rules.specs.declared.Numbers.{Numbers}
 use Rattle.rules.specs.declared.Core.{Core}
-use Rattle.rules.specs.Bounds.{mostBoxes, dataRoom, rootLimit, noneLeft}
+use Rattle.rules.specs.Bounds.{mostBoxes, dataRoom, noneLeft}
 use Rattle.rules.specs.Text.{chars, boxClass}
 use Rattle.rules.specs.Lists.{from}
 use Rattle.rules.specs.Records.{rootOf, boxCount, boxUids}
 use Rattle.rules.specs.Commands.{bytesOf}
 use Rattle.rules.specs.Attributes.{Listing, listingOf, look, valueOf, itemsIn, onlyItem, filmWith}
-use Rattle.rules.specs.Effects.{newFilm}
+use Rattle.rules.specs.Effects.{tooFewSerials, newFilm, filmSerials}
+use Rattle.rules.specs.Sound.{numbersSound}
 use Rattle.rules.specs.Responses.{boxItems, filmTree}
+use Rattle.promises.proofs.ListLaws.{each-all}
+use Rattle.promises.proofs.Facts.{numbers-facts, root-fits}
 use Rattle.promises.proofs.Layouts.{layout-few}
-use Rattle.promises.proofs.Instances.{box-uids-length}
+use Rattle.promises.proofs.Instances.{box-uids-length, box-uid-at}
 use Rattle.promises.proofs.Held.{here, later, Holds, holds, whole-span, whole-back}
-use Rattle.promises.proofs.ReplySizes.{AllShort, boxTree, film-fit, film-fits}
+use Rattle.promises.proofs.ReplySizes.{AllUids, boxTree, film-fit, film-fits}
 use Rattle.promises.proofs.ReadBack.{unpadded-ui}
 
 -- an item stands at a place of a sequence that ends at `stop`: its header tells its list, and that is read back
@@ -88,7 +92,7 @@ pub record BoxMeans (s : List ℕ) (explicit : Bool) (stop at : ℕ) (uid : List
   pub head : itemHeadAt s stop at ≡ Nest list
   pub class : unpadded (valueOf (itemListing s explicit list) 0x0008_1150) ≡ boxClass
   pub bytes : valueOf (itemListing s explicit list) 0x0008_1155 ≡ padded UI uid
-  pub instance : isUid uid ≡ true → unpadded (valueOf (itemListing s explicit list) 0x0008_1155) ≡ uid
+  pub instance : unpadded (valueOf (itemListing s explicit list) 0x0008_1155) ≡ uid
 
 class-uid : isUid boxClass ≡ true
 unfolding chars digits component components isUid
@@ -98,8 +102,8 @@ value-found : (s : List ℕ) (explicit : Bool) (inside : Inside) (tag : ℕ) (by
 unfolding bytesOf
 value-found s explicit inside tag bytes h = rw (h .found) (h .means)
 
-box-means : (s : List ℕ) (explicit : Bool) (stop at : ℕ) (uid : List ℕ) → ItemMeans s explicit 3 stop at (boxTree uid) → BoxMeans s explicit stop at uid
-box-means s explicit stop at uid m =
+box-means : (s : List ℕ) (explicit : Bool) (stop at : ℕ) (uid : List ℕ) → isUid uid ≡ true → ItemMeans s explicit 3 stop at (boxTree uid) → BoxMeans s explicit stop at uid
+box-means s explicit stop at uid i m =
     let inside : Inside = span (at + 8) (length (written explicit (boxTree uid))) in
     let c = value-found s explicit inside 0x0008_1150 (padded UI boxClass) (holds s explicit 3 (at + 8) (boxTree uid) (m .back) 0x0008_1150 (padded UI boxClass) (here refl)) in
     let u = value-found s explicit inside 0x0008_1155 (padded UI uid) (holds s explicit 3 (at + 8) (boxTree uid) (m .back) 0x0008_1155 (padded UI uid) (later refl (here refl))) in
@@ -108,7 +112,7 @@ box-means s explicit stop at uid m =
       head = m .head;
       class = ap unpadded c ∙ unpadded-ui boxClass class-uid;
       bytes = u;
-      instance = λ i. ap unpadded u ∙ unpadded-ui uid i;
+      instance = ap unpadded u ∙ unpadded-ui uid i;
     }
 
 -- as many boxes as UIDs, in their order
@@ -118,12 +122,12 @@ BoxesMean s explicit stop [] (uid ∷ uids) = ⊥
 BoxesMean s explicit stop (at ∷ places) [] = ⊥
 BoxesMean s explicit stop (at ∷ places) (uid ∷ uids) = BoxMeans s explicit stop at uid × BoxesMean s explicit stop places uids
 
-boxes-mean : (s : List ℕ) (explicit : Bool) (stop : ℕ) (places : List ℕ) (uids : List (List ℕ)) → ItemsMean s explicit 3 stop places (boxItems uids) → BoxesMean s explicit stop places uids
+boxes-mean : (s : List ℕ) (explicit : Bool) (stop : ℕ) (places : List ℕ) (uids : List (List ℕ)) → AllUids uids → ItemsMean s explicit 3 stop places (boxItems uids) → BoxesMean s explicit stop places uids
 unfolding boxItems
-boxes-mean s explicit stop [] [] m = tt
-boxes-mean s explicit stop [] (uid ∷ uids) m = m
-boxes-mean s explicit stop (at ∷ places) [] m = m
-boxes-mean s explicit stop (at ∷ places) (uid ∷ uids) m = (box-means s explicit stop at uid (m .0), boxes-mean s explicit stop places uids (m .1))
+boxes-mean s explicit stop [] [] k m = tt
+boxes-mean s explicit stop [] (uid ∷ uids) k m = m
+boxes-mean s explicit stop (at ∷ places) [] k m = m
+boxes-mean s explicit stop (at ∷ places) (uid ∷ uids) k m = (box-means s explicit stop at uid (k .0) (m .0), boxes-mean s explicit stop places uids (k .1) (m .1))
 
 pub boxes-count : (s : List ℕ) (explicit : Bool) (stop : ℕ) (places : List ℕ) (uids : List (List ℕ)) → BoxesMean s explicit stop places uids → length places ≡ length uids
 boxes-count s explicit stop [] [] m = refl
@@ -165,8 +169,8 @@ film-items : (uids : List (List ℕ)) → itemsUnder 0x2010_0510 (filmTree uids)
 unfolding itemsUnder filmTree
 film-items uids = refl
 
-module _ (explicit : Bool) (uids : List (List ℕ)) (k : AllShort uids) (n : length uids ≤ mostBoxes) where
-  -- For at most 36 UIDs of at most 64 characters, in both syntaxes.
+module _ (explicit : Bool) (uids : List (List ℕ)) (k : AllUids uids) (n : length uids ≤ mostBoxes) where
+  -- For at most 36 UIDs, in both syntaxes.
   pub film-means : FilmMeans (written explicit (filmTree uids)) explicit uids
   film-means =
       let t : Elements = filmTree uids in
@@ -183,74 +187,61 @@ module _ (explicit : Bool) (uids : List (List ℕ)) (k : AllShort uids) (n : len
         inside = i;
         found = e;
         counts = rw e (r .items 0x2010_0510 i p ∙ ap (told explicit start) (film-items uids));
-        boxes = boxes-mean b explicit (i .stop) (itemsOf b explicit 3 i start) uids (items-mean (boxItems uids) b explicit 3 start (i .stop) start (m .fit) refl (m .stands));
+        boxes = boxes-mean b explicit (i .stop) (itemsOf b explicit 3 i start) uids k (items-mean (boxItems uids) b explicit 3 start (i .stop) start (m .fit) refl (m .stands));
       }
 
 -- The UIDs that were made for its boxes.
 
--- UIDs made of a root of at most 40 characters have at most 51
-all-made-short : (root : List ℕ) (serials : List ℕ) → length root ≤ 40 → AllShort (map (made root) serials)
-all-made-short root [] h = tt
-all-made-short root (serial ∷ serials) h = (omega (arith, made-short root serial h), all-made-short root serials h)
+abbrev pub filmBytes : Bool → Numbers → Film → List ℕ
+filmBytes explicit n f = written explicit (filmTree (boxUids n f))
 
-made-at : (root : List ℕ) (n count i : ℕ) → i < count → getD (map (made root) (from n count)) i [] ≡ made root (n + i)
-unfolding from
-made-at root n zero i h = absurd (omega arith)
-made-at root n (suc count) zero h = ap (made root) (omega arith)
-made-at root n (suc count) (suc i) h = let e : n + 1 + i ≡ n + suc i = omega arith in made-at root (n + 1) count i (omega arith) ∙ ap (made root) e
-
-module _ (n : Numbers) (f : Film) (h : length (rootOf n) ≤ rootLimit) (few : boxCount (f .layout) ≤ mostBoxes) where
-  pub uids-short : AllShort (boxUids n f)
-  unfolding boxUids
-  uids-short = all-made-short (rootOf n) (from (f .first .0) (boxCount (f .layout))) h
-
-  pub uids-count : length (boxUids n f) ≡ boxCount (f .layout)
-  uids-count = box-uids-length n f
+-- numbers that keep their rules, and serials below the last for at most 36 boxes
+module _ (n : Numbers) (sound : numbersSound n ≡ true) (f : Film) (few : boxCount (f .layout) ≤ mostBoxes) (left : f .first .0 + boxCount (f .layout) ≤ noneLeft) where
+  uids-made : AllUids (boxUids n f)
+  uids-made =
+      each-all (λ (uid : List ℕ). isUid uid ≡ true) (boxUids n f) [] (λ i h.
+      let c = box-uids-length n f in
+      rw (box-uid-at n f i (omega arith)) (made-uid (rootOf n) (f .first .0 + i) (numbers-facts n sound .root) (root-fits n sound) (omega arith)))
 
   uids-few : length (boxUids n f) ≤ mostBoxes
-  uids-few = omega (arith, uids-count)
-
-  pub uid-at : (i : ℕ) → i < boxCount (f .layout) → getD (boxUids n f) i [] ≡ made (rootOf n) (f .first .0 + i)
-  unfolding boxUids
-  uid-at i k = made-at (rootOf n) (f .first .0) (boxCount (f .layout)) i k
+  uids-few = omega (arith, box-uids-length n f)
 
   module _ (explicit : Bool) where
     -- it fits its buffer, in both syntaxes
-    pub created-fits : length (written explicit (filmTree (boxUids n f))) ≤ dataRoom
-    created-fits = film-fits explicit (boxUids n f) uids-short uids-few
+    pub created-fits : length (filmBytes explicit n f) ≤ dataRoom
+    created-fits = film-fits explicit (boxUids n f) uids-made uids-few
 
     -- and is read back
-    pub created-means : FilmMeans (written explicit (filmTree (boxUids n f))) explicit (boxUids n f)
-    created-means = film-means explicit (boxUids n f) uids-short uids-few
+    pub created-means : FilmMeans (filmBytes explicit n f) explicit (boxUids n f)
+    created-means = film-means explicit (boxUids n f) uids-made uids-few
 
-    module _ (i : ℕ) (k : i < boxCount (f .layout)) where
-      -- the i-th item is that of the box with the i-th serial
-      pub created-box : BoxMeans (written explicit (filmTree (boxUids n f))) explicit (created-means .inside .stop)
-          (getD (itemsOf (written explicit (filmTree (boxUids n f))) explicit 3 (created-means .inside) (created-means .inside .from)) i 0)
-          (made (rootOf n) (f .first .0 + i))
-      created-box =
-          subst
-          (λ (uid : List ℕ). BoxMeans (written explicit (filmTree (boxUids n f))) explicit (created-means .inside .stop) (getD (itemsOf (written explicit (filmTree (boxUids n f))) explicit 3 (created-means .inside) (created-means .inside .from)) i 0) uid)
-          (uid-at i k)
-          (box-at (written explicit (filmTree (boxUids n f))) explicit (created-means .inside .stop) (itemsOf (written explicit (filmTree (boxUids n f))) explicit 3 (created-means .inside) (created-means .inside .from)) (boxUids n f) i (created-means .boxes) (omega (arith, uids-count)))
+    -- the i-th item is that of the box with the i-th serial: its UID is the root, a dot and that serial
+    pub created-box : (i : ℕ) → i < boxCount (f .layout)
+        → BoxMeans (filmBytes explicit n f) explicit (created-means .inside .stop)
+        (getD (itemsOf (filmBytes explicit n f) explicit 3 (created-means .inside) (created-means .inside .from)) i 0)
+        (made (rootOf n) (f .first .0 + i))
+    created-box i k =
+        let places = itemsOf (filmBytes explicit n f) explicit 3 (created-means .inside) (created-means .inside .from) in
+        subst (λ (uid : List ℕ). BoxMeans (filmBytes explicit n f) explicit (created-means .inside .stop) (getD places i 0) uid) (box-uid-at n f i k)
+        (box-at (filmBytes explicit n f) explicit (created-means .inside .stop) places (boxUids n f) i (created-means .boxes) (omega (arith, box-uids-length n f)))
 
-      -- its UID, unpadded, is the root, a dot and the serial
-      pub created-uid : isUid (rootOf n) ≡ true → f .first .0 + boxCount (f .layout) ≤ noneLeft
-          → unpadded (valueOf (itemListing (written explicit (filmTree (boxUids n f))) explicit (created-box .list)) 0x0008_1155) ≡ made (rootOf n) (f .first .0 + i)
-      created-uid u l = created-box .instance (made-uid (rootOf n) (f .first .0 + i) u h (omega arith))
-
--- A new film has at most 36 boxes.
+-- A new film has at most 36 boxes, and check 9 leaves it serials enough.
 
 module _ (k : Core) (sent : List ℕ) (l : Listing) where
-  pub new-film-few : boxCount (newFilm k sent l .layout) ≤ mostBoxes
+  new-film-few : boxCount (newFilm k sent l .layout) ≤ mostBoxes
   unfolding newFilm filmWith
   new-film-few = layout-few l
 
-  module _ (h : length (rootOf (k .numbers)) ≤ rootLimit) (explicit : Bool) where
-    -- the data set of a new film fits its buffer
-    pub new-film-fits : length (written explicit (filmTree (boxUids (k .numbers) (newFilm k sent l)))) ≤ dataRoom
-    new-film-fits = created-fits (k .numbers) (newFilm k sent l) h new-film-few explicit
+  module _ (sound : numbersSound (k .numbers) ≡ true) (enough : tooFewSerials (k .numbers) (filmSerials sent l) ≡ false) where
+    new-film-left : newFilm k sent l .first .0 + boxCount (newFilm k sent l .layout) ≤ noneLeft
+    unfolding newFilm filmWith
+    new-film-left = omega (arith, ltb-false noneLeft (k .numbers .serial + filmSerials sent l) enough)
 
-    -- and is read back
-    pub new-film-means : FilmMeans (written explicit (filmTree (boxUids (k .numbers) (newFilm k sent l)))) explicit (boxUids (k .numbers) (newFilm k sent l))
-    new-film-means = created-means (k .numbers) (newFilm k sent l) h new-film-few explicit
+    module _ (explicit : Bool) where
+      -- the data set of a new film fits its buffer
+      pub new-film-fits : length (filmBytes explicit (k .numbers) (newFilm k sent l)) ≤ dataRoom
+      new-film-fits = created-fits (k .numbers) sound (newFilm k sent l) new-film-few new-film-left explicit
+
+      -- and is read back
+      pub new-film-means : FilmMeans (filmBytes explicit (k .numbers) (newFilm k sent l)) explicit (boxUids (k .numbers) (newFilm k sent l))
+      new-film-means = created-means (k .numbers) sound (newFilm k sent l) new-film-few new-film-left explicit

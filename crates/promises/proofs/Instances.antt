@@ -1,9 +1,9 @@
 -- What a UID names is there, and what it means that it names nobody.
 -- Assumes nothing.
-use Prim.Native.Nat.{ℕ, _<_}
-use mathlib.Core.Path.{_≡_, refl, _∙_, subst}
+use Prim.Native.Nat.{ℕ, zero, suc, _+_, _<_}
+use mathlib.Core.Path.{_≡_, refl, ap, _∙_, subst}
 use mathlib.Core.Bool.{Bool, true, false}
-use mathlib.Core.List.{List}
+use mathlib.Core.List.{List, [], map}
 use native.Mathlib.Omega.{arith}
 use lib.ListN.{length, getD, length-map}
 use Rattle.choice.specs.Pick.{pick, both}
@@ -30,6 +30,17 @@ There k (theBox i j) = (i < length (filmsOf (k .shelf))) × (j < boxCount (filmA
 pub box-uids-length : (n : Numbers) (f : Film) → length (boxUids n f) ≡ boxCount (f .layout)
 unfolding boxUids
 box-uids-length n f = length-map (from (f .first .0) (boxCount (f .layout))) (made (rootOf n)) ∙ from-length (f .first .0) (boxCount (f .layout))
+
+made-at : (root : List ℕ) (n count i : ℕ) → i < count → getD (map (made root) (from n count)) i [] ≡ made root (n + i)
+unfolding from
+made-at root n zero i h = absurd (omega arith)
+made-at root n (suc count) zero h = ap (made root) (omega arith)
+made-at root n (suc count) (suc i) h = let e : n + 1 + i ≡ n + suc i = omega arith in made-at root (n + 1) count i (omega arith) ∙ ap (made root) e
+
+-- each is made of the box's serial
+pub box-uid-at : (n : Numbers) (f : Film) (i : ℕ) → i < boxCount (f .layout) → getD (boxUids n f) i [] ≡ made (rootOf n) (f .first .0 + i)
+unfolding boxUids
+box-uid-at n f i h = made-at (rootOf n) (f .first .0) (boxCount (f .layout)) i h
 
 box-there : (n : Numbers) (uid : List ℕ) (f : Film) → boxNamed n uid f ≡ true → placeOf (same uid) (boxUids n f) < boxCount (f .layout)
 box-there n uid f e =
@@ -65,11 +76,15 @@ module _ (k : Core) (uid : List ℕ) where
 
 -- A UID that names nobody.
 
-nobody-picked : (s f b : Bool) (p x y : ℕ) → isNobody (pick s theSession (pick f (theFilm p) (pick b (theBox x y) nobody))) ≡ true → (s ≡ false) × (f ≡ false)
+nobody-picked : (s f b : Bool) (p x y : ℕ) → isNobody (pick s theSession (pick f (theFilm p) (pick b (theBox x y) nobody))) ≡ true → (s ≡ false) × (f ≡ false) × (b ≡ false)
 nobody-picked true f b p x y e = absurd (clash refl e)
 nobody-picked false true b p x y e = absurd (clash refl e)
-nobody-picked false false b p x y e = (refl, refl)
+nobody-picked false false true p x y e = absurd (clash refl e)
+nobody-picked false false false p x y e = (refl, refl, refl)
 
-pub nobody-named : (k : Core) (uid : List ℕ) → isNobody (named k uid) ≡ true → (both (isLive (k .session)) (same uid (uidOf (k .numbers) (k .session .name))) ≡ false) × (any (filmNamed (k .numbers) uid) (filmsOf (k .shelf)) ≡ false)
+pub nobody-named : (k : Core) (uid : List ℕ) → isNobody (named k uid) ≡ true
+    → (both (isLive (k .session)) (same uid (uidOf (k .numbers) (k .session .name))) ≡ false)
+    × (any (filmNamed (k .numbers) uid) (filmsOf (k .shelf)) ≡ false)
+    × (any (boxNamed (k .numbers) uid) (filmsOf (k .shelf)) ≡ false)
 unfolding named
 nobody-named k uid e = nobody-picked (both (isLive (k .session)) (same uid (uidOf (k .numbers) (k .session .name)))) (any (filmNamed (k .numbers) uid) (filmsOf (k .shelf))) (any (boxNamed (k .numbers) uid) (filmsOf (k .shelf))) _ _ _ e

@@ -18,9 +18,14 @@ pub mod NewFilm
 pub mod Boxes
 pub mod Printing
 pub mod Decided
+pub mod Statuses
 pub mod Steps
 pub mod Collecting
 pub mod Kept
+-- What is live, and its UIDs.
+pub mod LiveUids
+pub mod Parents
+pub mod Created
 -- Numbers and tickets.
 pub mod Numbers
 pub mod Tickets
@@ -40,6 +45,11 @@ pub mod Tidy
 pub mod Unpacked
 pub mod Next
 pub mod NextCalls
+-- What a take and a feed write into lent buffers is read back.
+pub mod EntryBack
+pub mod Notes
+pub mod ReportBack
+pub mod LentBack
 -- Strike-out, a run of it, and the fakes that it admits.
 pub mod StrikeOut
 pub mod Run

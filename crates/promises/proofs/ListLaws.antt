@@ -1,7 +1,7 @@
 -- Laws of lists: of every element, tested or stated, of any, of no two alike, of part of a list, and of filled lists.
 -- Assumes nothing.
 use Prim.Native.Nat.{ℕ, zero, suc, _+_, _-_, _<_, _≤_}
-use mathlib.Core.Path.{_≡_, refl, ap, subst}
+use mathlib.Core.Path.{_≡_, refl, sym, ap, subst}
 use mathlib.Core.Bool.{Bool, true, false}
 use mathlib.Core.List.{List, [], _∷_, _++_, map}
 use native.Mathlib.Omega.{arith}
@@ -9,7 +9,7 @@ use lib.Dec.{eqb}
 use lib.ListN.{length, getD, set, take, drop, replicate, length-append, length-replicate, take-append-drop}
 use lib.Seq.{take-append-seam, drop-append-seam}
 use Rattle.choice.specs.Pick.{pick, either}
-use Rattle.choice.proofs.Picks.{both-true, both-holds, clash}
+use Rattle.choice.proofs.Picks.{both-true, both-holds, either-false, clash}
 use Rattle.rules.specs.Bounds.{mostFilms, mostEntries}
 use Rattle.rules.specs.declared.Film.{Film}
 use Rattle.rules.specs.declared.Entry.{Entry}
@@ -200,6 +200,13 @@ module _ {A : Type 0} (test : A → Bool) where
   place-passes [] d e = absurd (clash refl e)
   place-passes (x ∷ xs) d e = found-behind x d (test x) xs refl (place-passes xs d) e
 
+  -- where none passes, no place's element does
+  pub none-at : (xs : List A) (i : ℕ) (d : A) → any test xs ≡ false → i < length xs → test (getD xs i d) ≡ false
+  unfolding any
+  none-at [] i d e h = absurd (omega arith)
+  none-at (x ∷ xs) zero d e h = either-false (test x) (any test xs) e .0
+  none-at (x ∷ xs) (suc i) d e h = none-at xs i d (either-false (test x) (any test xs) e .1) (omega arith)
+
 -- Part of a list, in its order.
 
 module _ {A : Type 0} where
@@ -246,22 +253,90 @@ module _ {A : Type 0} (alike : A → A → Bool) where
   unfolding every apart
   apart-one x = refl
 
+  pub apart-parts : (x : A) (xs : List A) → apart alike (x ∷ xs) ≡ true → (every (λ y. pick (alike x y) false true) xs ≡ true) × (apart alike xs ≡ true)
+  unfolding apart
+  apart-parts x xs e = both-true (every (λ y. pick (alike x y) false true) xs) (apart alike xs) e
+
   -- one list after another, of which no element is like one of the first
   pub apart-append : (xs ys : List A) → apart alike xs ≡ true → apart alike ys ≡ true → every (λ x. every (λ y. pick (alike x y) false true) ys) xs ≡ true → apart alike (xs ++ ys) ≡ true
   unfolding apart every
   apart-append [] ys e f g = f
   apart-append (x ∷ xs) ys e f g =
-      let t = both-true (every (λ y. pick (alike x y) false true) xs) (apart alike xs) e in
+      let t = apart-parts x xs e in
       let u = both-true (every (λ y. pick (alike x y) false true) ys) (every (λ z. every (λ y. pick (alike z y) false true) ys) xs) g in
       both-holds (every (λ y. pick (alike x y) false true) (xs ++ ys)) (apart alike (xs ++ ys))
       (every-append (λ y. pick (alike x y) false true) xs ys (t .0) (u .0))
       (apart-append xs ys (t .1) f (u .1))
+
+-- No two equal, as a fact.
+
+abbrev pub Unlike : {A : Type 0} → A → A → Type 0
+Unlike x y = x ≡ y → ⊥
+
+abbrev pub Differ : {A : Type 0} → List A → Type 0
+Differ [] = Unit {0}
+Differ (x ∷ xs) = Each (Unlike x) xs × Differ xs
+
+-- lists one after the other
+abbrev pub joined : {A : Type 0} → List (List A) → List A
+joined [] = []
+joined (xs ∷ lists) = xs ++ joined lists
+
+module _ {A : Type 0} where
+  pub differ-append : (xs ys : List A) → Differ xs → Differ ys → Each (λ x. Each (Unlike x) ys) xs → Differ (xs ++ ys)
+  differ-append [] ys h k b = k
+  differ-append (x ∷ xs) ys h k b = (each-append (Unlike x) xs ys (h .0) (b .0), differ-append xs ys (h .1) k (b .1))
+
+  -- what holds of each two places
+  pub differ-all : (xs : List A) (d : A) → ((i j : ℕ) → i < j → j < length xs → getD xs i d ≡ getD xs j d → ⊥) → Differ xs
+  differ-all [] d f = tt
+  differ-all (x ∷ xs) d f = (each-all (Unlike x) xs d (λ j h. f 0 (suc j) (omega arith) (omega arith)), differ-all xs d (λ i j h k. f (suc i) (suc j) (omega arith) (omega arith)))
+
+  differ-parts : (xs ys : List A) → Differ (xs ++ ys) → Differ xs × Differ ys × Each (λ x. Each (Unlike x) ys) xs
+  differ-parts [] ys h = (tt, h, tt)
+  differ-parts (x ∷ xs) ys h =
+      let t = each-parts (Unlike x) xs ys (h .0) in
+      let r = differ-parts xs ys (h .1) in
+      ((t .0, r .0), r .1, (t .1, r .2))
+
+  -- equal elements stand at one place
+  pub differ-one : (xs : List A) (d : A) (i j : ℕ) → Differ xs → i < length xs → j < length xs → getD xs i d ≡ getD xs j d → i ≡ j
+  differ-one [] d i j h a b e = absurd (omega arith)
+  differ-one (x ∷ xs) d zero zero h a b e = refl
+  differ-one (x ∷ xs) d zero (suc j) h a b e = absurd (each-at (Unlike x) xs j d (h .0) (omega arith) e)
+  differ-one (x ∷ xs) d (suc i) zero h a b e = absurd (each-at (Unlike x) xs i d (h .0) (omega arith) (sym e))
+  differ-one (x ∷ xs) d (suc i) (suc j) h a b e = ap suc (differ-one xs d i j (h .1) (omega arith) (omega arith) e)
+
+  each-joined : (P : A → Type 0) (lists : List (List A)) (d : A) (a p : ℕ) → Each P (joined lists) → p < length (getD lists a []) → P (getD (getD lists a []) p d)
+  each-joined P [] d a p h k = absurd (omega arith)
+  each-joined P (xs ∷ lists) d zero p h k = each-at P xs p d (each-parts P xs (joined lists) h .0) k
+  each-joined P (xs ∷ lists) d (suc a) p h k = each-joined P lists d a p (each-parts P xs (joined lists) h .1) k
+
+  -- an element of the first list, and one of another
+  first-other : (xs : List A) (lists : List (List A)) (d : A) (b p q : ℕ) → Differ (xs ++ joined lists) → p < length xs → q < length (getD lists b []) → getD xs p d ≡ getD (getD lists b []) q d → ⊥
+  first-other xs lists d b p q h i j =
+      each-joined (Unlike (getD xs p d)) lists d b q (each-at (λ x. Each (Unlike x) (joined lists)) xs p d (differ-parts xs (joined lists) h .2) i) j
+
+  -- the same of lists that are joined: at one place of one list
+  pub joined-one : (lists : List (List A)) (d : A) (a b p q : ℕ) → Differ (joined lists) → p < length (getD lists a []) → q < length (getD lists b []) → getD (getD lists a []) p d ≡ getD (getD lists b []) q d → (a ≡ b) × (p ≡ q)
+  joined-one [] d a b p q h i j e = absurd (omega arith)
+  joined-one (xs ∷ lists) d zero zero p q h i j e = (refl, differ-one xs d p q (differ-parts xs (joined lists) h .0) i j e)
+  joined-one (xs ∷ lists) d zero (suc b) p q h i j e = absurd (first-other xs lists d b p q h i j e)
+  joined-one (xs ∷ lists) d (suc a) zero p q h i j e = absurd (first-other xs lists d a q p h j i (sym e))
+  joined-one (xs ∷ lists) d (suc a) (suc b) p q h i j e =
+      let r = joined-one lists d a b p q (differ-parts xs (joined lists) h .1) i j e in
+      (ap suc (r .0), r .1)
 
 -- Lists mapped, and counted on from a number.
 
 pub map-append : {A B : Type 0} (f : A → B) (xs ys : List A) → map f (xs ++ ys) ≡ map f xs ++ map f ys
 map-append f [] ys = refl
 map-append f (x ∷ xs) ys = rw (map-append f xs ys)
+
+pub map-at : {A B : Type 0} (f : A → B) (xs : List A) (i : ℕ) (d : A) (e : B) → i < length xs → getD (map f xs) i e ≡ f (getD xs i d)
+map-at f [] i d e h = absurd (omega arith)
+map-at f (x ∷ xs) zero d e h = refl
+map-at f (x ∷ xs) (suc i) d e h = map-at f xs i d e (omega arith)
 
 pub from-length : (n count : ℕ) → length (from n count) ≡ count
 unfolding from

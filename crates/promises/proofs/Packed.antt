@@ -86,7 +86,8 @@ pub state-laws : Laws stateFormat
 unfolding stateFormat
 state-laws = via-laws _ _ (λ b. refl) (λ a. refl) (core-laws then-laws input-laws)
 
-from-start : (b : List ℕ) (n : ℕ) → length b ≡ n → part b 0 (0 + n) ≡ b
+-- all of a list, from its start
+pub from-start : (b : List ℕ) (n : ℕ) → length b ≡ n → part b 0 (0 + n) ≡ b
 from-start b n e = let k : 0 + n - 0 ≡ n = omega arith in rw k (take-all n b (omega arith))
 
 -- records of numbers that fit their fields

@@ -28,7 +28,7 @@ use Rattle.writing.proofs.ListBack.{data-set-back}
 use Rattle.rules.specs.Commands.{inCommand, placed, bytesOf, uidAt, hasNumber, numberIn, lengthTold, hasData}
 use Rattle.rules.specs.Responses.{Says, Note, uidElement, actionElement, dataSetType, responseElements, responseTree, reply}
 use Rattle.promises.proofs.Held.{Has, here, later, Lacks, never, other, Holds, whole-holds, whole-lacks}
-use Rattle.promises.proofs.ReplySizes.{Brief, from1000, from0900, from0800, from0120, from0100, elements-short, tree-length, response-fit}
+use Rattle.promises.proofs.ReplySizes.{UidOrNone, SaysUids, from1000, from0900, from0800, from0120, from0100, elements-short, tree-length, response-fit}
 
 -- Values.
 
@@ -81,7 +81,7 @@ pub record NumberIs (c : List ℕ) (tag n : ℕ) : Type 0 where
 
 pub record UidIs (c : List ℕ) (tag : ℕ) (uid : List ℕ) : Type 0 where
   pub bytes : bytesOf c (placed (inCommand c tag)) ≡ padded UI uid
-  pub is : isUid uid ≡ true → uidAt c (placed (inCommand c tag)) ≡ uid
+  pub is : uidAt c (placed (inCommand c tag)) ≡ uid
 
 -- what may be left out is missing then; a number keeps its last 16 bits
 abbrev pub NumberMeant : List ℕ → ℕ → Option ℕ → Type 0
@@ -101,11 +101,11 @@ number-is c tag n h =
       is = rw (h .found) (number-back 2 (n % 65536) c (h .place .from) (omega arith) (subst (λ (v : List ℕ). Stands c (h .place .from) v) e (held-stands h)));
     }
 
-uid-is : (c : List ℕ) (tag : ℕ) (uid : List ℕ) → Holds c false 4 (whole c) tag (padded UI uid) → UidIs c tag uid
+uid-is : (c : List ℕ) (tag : ℕ) (uid : List ℕ) → isUid uid ≡ true → Holds c false 4 (whole c) tag (padded UI uid) → UidIs c tag uid
 unfolding bytesOf uidAt
-uid-is c tag uid h = record {
+uid-is c tag uid u h = record {
   bytes = rw (h .found) (h .means);
-  is = λ u. rw (h .found, h .means) (unpadded-ui uid u);
+  is = rw (h .found, h .means) (unpadded-ui uid u);
 }
 
 -- What a response's elements hold under a tag.
@@ -216,9 +216,9 @@ module _ (says : Says) (status : ℕ) (d : List ℕ) where
 -- From the elements to the bytes.
 
 module _ (elements : Elements) (f : Fit false 4 0 elements) where
-  uid-meant : (tag : ℕ) (uid : Option (List ℕ)) → There elements tag (uidBytes uid) → UidMeant (written false elements) tag uid
-  uid-meant tag none h = whole-lacks false elements f tag h
-  uid-meant tag (some uid) h = uid-is (written false elements) tag uid (whole-holds false elements f tag (padded UI uid) h)
+  uid-meant : (tag : ℕ) (uid : Option (List ℕ)) → UidOrNone uid → There elements tag (uidBytes uid) → UidMeant (written false elements) tag uid
+  uid-meant tag none u h = whole-lacks false elements f tag h
+  uid-meant tag (some uid) u h = uid-is (written false elements) tag uid u (whole-holds false elements f tag (padded UI uid) h)
 
   number-meant : (tag : ℕ) (n : Option ℕ) → There elements tag (numberBytes n) → NumberMeant (written false elements) tag n
   number-meant tag none h = whole-lacks false elements f tag h
@@ -270,7 +270,7 @@ pub record ResponseMeans (c : List ℕ) (says : Says) (status : ℕ) (d : List �
   -- and nothing under any other tag
   pub nothing-else : (tag : ℕ) → Foreign tag → inCommand c tag ≡ Missing
 
-module _ (says : Says) (status : ℕ) (d : List ℕ) (b : Brief says) where
+module _ (says : Says) (status : ℕ) (d : List ℕ) (b : SaysUids says) where
   tree-means : ResponseMeans (written false (responseTree says status d)) says status d
   tree-means =
       let t : Elements = responseTree says status d in
@@ -279,18 +279,18 @@ module _ (says : Says) (status : ℕ) (d : List ℕ) (b : Brief says) where
       record {
         read = data-set-back false t f;
         group = length-is (written false t) (length (written false (responseElements says status d))) (omega (arith, elements-short says status d b)) (tree-length says status d b) (whole-holds false t f 0x0000_0000 _ (group-there says status d));
-        class = uid-meant t f 0x0000_0002 (says .class) (class-there says status d);
+        class = uid-meant t f 0x0000_0002 (says .class) (b .class) (class-there says status d);
         field = number-meant t f 0x0000_0100 (some (says .field + 0x8000)) (field-there says status d);
         message = number-meant t f 0x0000_0120 (some (says .message)) (message-there says status d);
         data-type = k;
         data-comes = type-told (written false t) d k;
         status-is = number-meant t f 0x0000_0900 (some status) (status-there says status d);
-        instance = uid-meant t f 0x0000_1000 (says .instance) (instance-there says status d);
+        instance = uid-meant t f 0x0000_1000 (says .instance) (b .instance) (instance-there says status d);
         action = number-meant t f 0x0000_1008 (says .action) (kind-there says status d);
         nothing-else = λ tag e. whole-lacks false t f tag (foreign-lacks says status d tag e);
       }
 
-  -- Whatever a response says, with UIDs of at most 64 characters, is read back from the command set that is handed out.
+  -- Whatever a response says, where its class and its instance are UIDs or left out, is read back from the command set that is handed out.
   pub response-means : (note : Note) → ResponseMeans (reply says status d note .command) says status d
   unfolding reply
   response-means note = tree-means

@@ -9,6 +9,8 @@ use native.Mathlib.Omega.{arith}
 use lib.ListN.{length}
 use Rattle.octets.specs.Octets.{octets}
 use Rattle.octets.proofs.Numbers.{octets-length}
+use Rattle.uids.specs.Uids.{isUid}
+use Rattle.uids.proofs.Length.{uid-short}
 use Rattle.tags.specs.Table.{SQ, UI, UL, US, formOf, namedVr, differs}
 use Rattle.writing.specs.Tree.{Elements, noElements, value, sequence}
 use Rattle.writing.specs.Bytes.{padded, headerSize, written, writtenItems}
@@ -20,18 +22,17 @@ use Rattle.rules.specs.Text.{chars, boxClass}
 use Rattle.rules.specs.Responses.{Says, Note, uidElement, numberElement, actionElement, dataSetType, responseElements, responseTree, reply, boxItems, filmTree}
 use Rattle.promises.proofs.ListLaws.{Each}
 
--- a UID that may be left out has at most 64 characters
-abbrev pub Short : Option (List ℕ) → Type 0
-Short none = Unit {0}
-Short (some uid) = length uid ≤ 64
+-- what may be left out, and is a UID where it is not
+abbrev pub UidOrNone : Option (List ℕ) → Type 0
+UidOrNone none = Unit {0}
+UidOrNone (some uid) = isUid uid ≡ true
 
-pub record Brief (says : Says) : Type 0 where
-  pub class : Short (says .class)
-  pub instance : Short (says .instance)
+pub record SaysUids (says : Says) : Type 0 where
+  pub class : UidOrNone (says .class)
+  pub instance : UidOrNone (says .instance)
 
--- each of the UIDs has at most 64 characters
-abbrev pub AllShort : List (List ℕ) → Type 0
-AllShort uids = Each (λ (uid : List ℕ). length uid ≤ 64) uids
+abbrev pub AllUids : List (List ℕ) → Type 0
+AllUids uids = Each (λ (uid : List ℕ). isUid uid ≡ true) uids
 
 -- A response's elements from a tag on.
 
@@ -60,16 +61,16 @@ number-bytes : (tag n : ℕ) (more : Elements) → length (written false (number
 number-bytes tag n more =
     omega (arith, value-length false tag more US (octets 2 n), octets-length 2 n, size-implicit US)
 
-uid-bytes : (tag : ℕ) (uid : Option (List ℕ)) (more : Elements) → Short uid → length (written false (uidElement tag uid more)) ≤ 72 + length (written false more)
+uid-bytes : (tag : ℕ) (uid : Option (List ℕ)) (more : Elements) → UidOrNone uid → length (written false (uidElement tag uid more)) ≤ 72 + length (written false more)
 uid-bytes tag none more h = omega arith
-uid-bytes tag (some uid) more h = omega (arith, value-length false tag more UI uid, size-implicit UI)
+uid-bytes tag (some uid) more h = omega (arith, uid-short uid h, value-length false tag more UI uid, size-implicit UI)
 
 action-bytes : (kind : Option ℕ) → length (written false (actionElement kind)) ≤ 10
 unfolding written
 action-bytes none = omega arith
 action-bytes (some n) = omega (arith, number-bytes 0x0000_1008 n noElements)
 
-module _ (says : Says) (status : ℕ) (d : List ℕ) (h : Brief says) where
+module _ (says : Says) (status : ℕ) (d : List ℕ) (h : SaysUids says) where
   -- what follows the group length has at most 194 bytes
   pub elements-short : length (written false (responseElements says status d)) ≤ 194
   unfolding responseElements
@@ -115,9 +116,9 @@ header-fits explicit floor tag vr bytes h a k = (h, a, below-limit explicit vr (
 fit-number : (explicit : Bool) (room floor tag n : ℕ) (more : Elements) → floor ≤ tag → allowed tag US ≡ true → Fit explicit room (tag + 1) more → Fit explicit room floor (numberElement tag n more)
 fit-number explicit room floor tag n more h a f = (header-fits explicit floor tag US (octets 2 n) h a (omega (arith, octets-length 2 n)), refl, f)
 
-fit-uid : (explicit : Bool) (room floor tag : ℕ) (uid : Option (List ℕ)) (more : Elements) → floor ≤ tag → allowed tag UI ≡ true → Short uid → Fit explicit room (tag + 1) more → Fit explicit room floor (uidElement tag uid more)
+fit-uid : (explicit : Bool) (room floor tag : ℕ) (uid : Option (List ℕ)) (more : Elements) → floor ≤ tag → allowed tag UI ≡ true → UidOrNone uid → Fit explicit room (tag + 1) more → Fit explicit room floor (uidElement tag uid more)
 fit-uid explicit room floor tag none more h a s f = fit-lower explicit room floor (tag + 1) more (omega arith) f
-fit-uid explicit room floor tag (some uid) more h a s f = (header-fits explicit floor tag UI uid h a s, refl, f)
+fit-uid explicit room floor tag (some uid) more h a s f = (header-fits explicit floor tag UI uid h a (uid-short uid s), refl, f)
 
 fit-action : (explicit : Bool) (room floor : ℕ) (kind : Option ℕ) → floor ≤ 0x0000_1008 → Fit explicit room floor (actionElement kind)
 unfolding allowed formOf namedVr differs
@@ -125,7 +126,7 @@ fit-action explicit room floor none h = tt
 fit-action explicit room floor (some n) h = fit-number explicit room floor 0x0000_1008 n noElements h refl tt
 
 -- a response fits to be written
-pub response-fit : (explicit : Bool) (room : ℕ) (says : Says) (status : ℕ) (d : List ℕ) → Brief says → Fit explicit room 0 (responseTree says status d)
+pub response-fit : (explicit : Bool) (room : ℕ) (says : Says) (status : ℕ) (d : List ℕ) → SaysUids says → Fit explicit room 0 (responseTree says status d)
 unfolding responseTree responseElements allowed formOf namedVr differs
 response-fit explicit room says status d h = (
   header-fits explicit 0 0x0000_0000 UL (octets 4 (length (written false (responseElements says status d)))) (omega arith) refl (omega (arith, octets-length 4 (length (written false (responseElements says status d))))),
@@ -155,10 +156,10 @@ module _ (explicit : Bool) where
   box-length uid k =
       omega (arith, value-length explicit 0x0008_1150 (value 0x0008_1155 UI uid noElements) UI boxClass, value-length explicit 0x0008_1155 noElements UI uid, size-between explicit UI .1, class-length)
 
-  boxes-length : (uids : List (List ℕ)) → AllShort uids → length (writtenItems explicit (boxItems uids)) ≤ 118 * length uids
+  boxes-length : (uids : List (List ℕ)) → AllUids uids → length (writtenItems explicit (boxItems uids)) ≤ 118 * length uids
   unfolding written boxItems
   boxes-length [] k = omega arith
-  boxes-length (uid ∷ uids) k = omega (arith, items-length explicit (boxTree uid) (boxItems uids), box-length uid (k .0), boxes-length uids (k .1))
+  boxes-length (uid ∷ uids) k = omega (arith, items-length explicit (boxTree uid) (boxItems uids), box-length uid (uid-short uid (k .0)), boxes-length uids (k .1))
 
   box-fit : (room : ℕ) (uid : List ℕ) → length uid ≤ 64 → Fit explicit room 0 (boxTree uid)
   unfolding allowed formOf namedVr differs
@@ -168,12 +169,12 @@ module _ (explicit : Bool) where
     (header-fits explicit 0x0008_1151 0x0008_1155 UI uid (omega arith) refl k, refl, tt),
   )
 
-  boxes-fit : (room : ℕ) (uids : List (List ℕ)) → AllShort uids → FitItems explicit room (boxItems uids)
+  boxes-fit : (room : ℕ) (uids : List (List ℕ)) → AllUids uids → FitItems explicit room (boxItems uids)
   unfolding boxItems
   boxes-fit room [] k = tt
-  boxes-fit room (uid ∷ uids) k = (omega (arith, box-length uid (k .0)), box-fit room uid (k .0), boxes-fit room uids (k .1))
+  boxes-fit room (uid ∷ uids) k = (omega (arith, box-length uid (uid-short uid (k .0))), box-fit room uid (uid-short uid (k .0)), boxes-fit room uids (k .1))
 
-  module _ (uids : List (List ℕ)) (k : AllShort uids) (n : length uids ≤ mostBoxes) where
+  module _ (uids : List (List ℕ)) (k : AllUids uids) (n : length uids ≤ mostBoxes) where
     -- it fits to be written, in both syntaxes
     pub film-fit : Fit explicit 4 0 (filmTree uids)
     unfolding filmTree allowed formOf namedVr differs

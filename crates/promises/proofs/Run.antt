@@ -8,32 +8,16 @@ use lib.Dec.{eqb, ltb}
 use lib.ListN.{length}
 use Rattle.choice.specs.Pick.{either}
 use Rattle.strike.specs.Service.{Call, feed, aside}
-use Rattle.strike.specs.Machine.{headerWrong, fragmentIn, skips, reads, gathers, overflows, stores, collect, laidBy, answered, carriedOut, fed, checked, step, laidIf, messageAfter}
 use Rattle.strike.specs.Machine as machine
 use Rattle.strike.specs.Machine.{Input, idle, inData, Records, Answer}
 use Rattle.strike.specs.Messages.{mayBegin, unfinished, roleOfFragment, countAfter, messageOf, cutBy, struck, without, strikeable, says, isOf, fateOf, roleIf, roleOf, eventOf, historyFrom, history, answers, after}
 use Rattle.strike.specs.Messages.{succeeded, failed, wasDropped, wasCutOff, callsOf}
+use Rattle.rules.proofs.Book.{theBook}
 use Rattle.rules.specs.declared.Core.{Core}
 use Rattle.rules.specs.Responses.{Reply}
-use Rattle.rules.specs.Calls.{Handed, printing, check, started, opened, closed, pictureBytes, entryBytes, taken, reading}
+use Rattle.rules.specs.Calls.{Handed, printing}
 use Rattle.rules.proofs.Stage.{nothingLive}
-use Rattle.octets.specs.Octets.{numberAt, bigNumberAt, octets, same}
-use Rattle.uids.specs.Uids.{digits, component, components, isUid, unpadded, beginsWith, lastDigits, decimal, made}
-use Rattle.tags.specs.Table.{namedVr, formOf, implicitVr, differs}
-use Rattle.headers.specs.Header.{tagAt, sizeAt, vrAt, lengthAt, vrWrong, lengthHead, headAt, itemHeadAt, closeAt}
-use Rattle.elements.specs.Find.{elementsFrom, itemsOf, findAt, itemsAt}
-use Rattle.elements.specs.Walk.{walk, trail}
-use Rattle.elements.specs.Reader.{listStep, listFrom, itemWith, itemStep, itemsFrom, elementAt, listAt, itemAt, dataSet}
-use Rattle.writing.specs.Bytes.{padded, tagOctets, vrOctets, headerSize, plain, header, element, written, writtenItems}
-use Rattle.rules.specs.Effects.{sessionCreated, newFilm, filmCreated, sessionSet, filmSet, boxSet, sessionDeleted, filmDeleted, pictureOn, entryOf, entriesFor, ticketAfter, printed, filledBoxes}
-use Rattle.rules.specs.Checks.{classOf, generalRules, createRules, targetRules, createPlan, setPlan, actionPlan, deletePlan, planOf, decideRequest, decide}
-use Rattle.rules.specs.Text.{chars}
-use Rattle.rules.specs.Lists.{every, any, placeOf, apart, sum, from}
-use Rattle.rules.specs.Commands.{bytesOf, uidAt, groupZero, lengthTold, wellFormed, hasData, requestIn, understood}
-use Rattle.rules.specs.Records.{rootOf, uidOf, boxCount, boxesOf, filmsOf, shelved, entriesOf, queued, boxUids, named}
-use Rattle.rules.specs.Responses.{responseElements, responseTree, reply, boxItems, filmTree}
-use Rattle.rules.specs.Values.{withoutLeading, withoutTrailing, trimmed, blank, withoutPlus, decimalValue, countIn, codeIn, labelAllowed, standard, listed, numbersIn, uneven, countsIn}
-use Rattle.rules.specs.Attributes.{sessionStandings, sessionWith, optionalFilm, filmCreateStandings, filmSetStandings, filmWith, layoutIn, imageStandings, imageIn, boxStandings, boxWith}
+use Rattle.elements.specs.Reader.{dataSet}
 use Rattle.promises.proofs.Fakes.{makes}
 
 -- N-SET of session 1.2.3, whose data set follows
@@ -116,5 +100,5 @@ pub run-at-work :
     × (map told (answers printing before left) ≡ 0x0000 ∷ 6 ∷ 16 ∷ 2 ∷ 16 ∷ [])
     × (waiting (after printing before calls .input) ≡ 0)
     × (waiting (after printing before left .input) ≡ 4)
-unfolding numberAt bigNumberAt octets same digits component components isUid unpadded beginsWith lastDigits decimal made namedVr formOf implicitVr differs tagAt sizeAt vrAt lengthAt vrWrong lengthHead headAt itemHeadAt closeAt elementsFrom itemsOf findAt itemsAt walk trail listStep listFrom itemWith itemStep itemsFrom elementAt listAt itemAt dataSet padded tagOctets vrOctets headerSize plain header element written writtenItems sessionCreated newFilm filmCreated sessionSet filmSet boxSet sessionDeleted filmDeleted pictureOn entryOf entriesFor ticketAfter printed filledBoxes classOf generalRules createRules targetRules createPlan setPlan actionPlan deletePlan planOf decideRequest decide chars every any placeOf apart sum from bytesOf uidAt groupZero lengthTold wellFormed hasData requestIn understood rootOf uidOf boxCount boxesOf filmsOf shelved entriesOf queued boxUids named responseElements responseTree reply boxItems filmTree withoutLeading withoutTrailing trimmed blank withoutPlus decimalValue countIn codeIn labelAllowed standard listed numbersIn uneven countsIn sessionStandings sessionWith optionalFilm filmCreateStandings filmSetStandings filmWith layoutIn imageStandings imageIn boxStandings boxWith headerWrong fragmentIn skips reads gathers overflows stores collect laidBy answered carriedOut fed checked step laidIf messageAfter mayBegin unfinished roleOfFragment countAfter messageOf cutBy struck without strikeable says isOf fateOf roleIf roleOf eventOf historyFrom history answers after check started opened closed pictureBytes entryBytes taken reading
+unfolding theBook mayBegin unfinished roleOfFragment countAfter messageOf cutBy struck without strikeable says isOf fateOf roleIf roleOf eventOf historyFrom history answers after
 run-at-work = (refl, refl, refl, refl, refl)

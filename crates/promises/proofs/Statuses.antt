@@ -1,0 +1,161 @@
+-- "All up to 10 are failures": a request that fails has a status that is neither 0000H nor a warning, one that is done has 0000H or a warning.
+-- Assumes nothing.
+use Prim.Native.Nat.{ℕ}
+use mathlib.Core.Path.{_≡_, refl}
+use mathlib.Core.Bool.{Bool, true, false}
+use mathlib.Core.List.{List, [], _∷_, _++_}
+use lib.Dec.{eqb}
+use Rattle.choice.specs.Pick.{pick, not}
+use Rattle.choice.specs.Rules.{Rule, _⇒_, firstOr}
+use Rattle.headers.specs.declared.Part.{Part}
+use Rattle.strike.specs.Service.{DataSet, Result, fails, does}
+use Rattle.rules.specs.declared.Core.{Core}
+use Rattle.rules.specs.declared.Operation.{Operation}
+use Rattle.rules.specs.declared.Operation.the-variants.{Echo, Create, Set, Act, Delete}
+use Rattle.rules.specs.declared.Request.{Request}
+use Rattle.rules.specs.declared.Command.{Command}
+use Rattle.rules.specs.declared.Command.the-variants.{Unreadable, Unknown, Known}
+use Rattle.rules.specs.Lists.{any}
+use Rattle.rules.specs.Records.{explicitVR, Instance, nobody, theSession, theFilm, theBox, named}
+use Rattle.rules.specs.Commands.{uidAt, understood}
+use Rattle.rules.specs.Attributes.{Listing, listingOf}
+use Rattle.rules.specs.Responses.{isFailure, Reply, reply}
+use Rattle.rules.specs.Effects.{noneFilled}
+use Rattle.rules.specs.Checks.{Class, verification, sessions, films, boxes, unknownClass, classOf, dataOf, generalRules, createRules, targetRules, Plan, sentUid, createPlan, setPlan, actionPlan, deletePlan, also, planOf, failed, answered, decideRequest, decideCommand, decide}
+
+-- the status of a failure, and of what is done
+abbrev pub Fails : ℕ → Type 0
+Fails status = isFailure status ≡ true
+
+abbrev pub Succeeds : ℕ → Type 0
+Succeeds status = isFailure status ≡ false
+
+-- what a request comes to has the one or the other
+abbrev pub Statused : Result Core Reply → Type 0
+Statused (fails r) = Fails (r .status)
+Statused (does k r) = Succeeds (r .status)
+
+-- Every rule has the status of a failure.
+
+abbrev Failing : List Rule → Type 0
+Failing [] = Unit {0}
+Failing ((broken ⇒ n) ∷ rules) = Fails n × Failing rules
+
+failing-both : (a b : List Rule) → Failing a → Failing b → Failing (a ++ b)
+failing-both [] b f g = g
+failing-both ((broken ⇒ n) ∷ a) b f g = (f .0, failing-both a b (f .1) g)
+
+failing-cases : {A : Type 0} (P : A → Type 0) (refused : ℕ → A) (rules : List Rule) (kept : A) → Failing rules → ((n : ℕ) → Fails n → P (refused n)) → P kept → P (firstOr refused rules kept)
+failing-cases P refused [] kept f g h = h
+failing-cases P refused ((true ⇒ n) ∷ rules) kept f g h = g n (f .0)
+failing-cases P refused ((false ⇒ n) ∷ rules) kept f g h = failing-cases P refused rules kept (f .1) g h
+
+general-failing : (k : Core) (c : List ℕ) (d : DataSet) (o : Operation) → Failing (generalRules k c d o)
+unfolding generalRules
+general-failing k c d o = (refl, (refl, (refl, (refl, tt))))
+
+create-failing : (k : Core) (c : List ℕ) (sent : Part) → Failing (createRules k c sent)
+unfolding createRules
+create-failing k c sent = (refl, (refl, tt))
+
+target-failing : (k : Core) (c : List ℕ) (class instance : Part) → Failing (targetRules k c class instance)
+unfolding targetRules
+target-failing k c class instance = (refl, (refl, tt))
+
+act-failing : (k : Core) (c : List ℕ) (class instance : Part) (kind : ℕ) → Failing (targetRules k c class instance ++ ((not (eqb kind 1) ⇒ 0x0123) ∷ []))
+unfolding targetRules
+act-failing k c class instance kind = (refl, (refl, (refl, tt)))
+
+-- Every plan has rules of failures, and a status of what is done.
+
+record Planned (p : Plan) : Type 0 where
+  rules-failing : Failing (p .rules)
+  done-succeeds : Succeeds (p .done .status)
+
+picked-succeeds : (t : Bool) (warning : ℕ) → Succeeds warning → Succeeds (pick t warning 0x0000)
+picked-succeeds true warning w = w
+picked-succeeds false warning w = refl
+
+create-planned : (k : Core) (class : Class) (sent : List ℕ) (l : Listing) → Planned (createPlan k class sent l)
+unfolding createPlan
+create-planned k verification sent l = record { rules-failing = tt; done-succeeds = refl }
+create-planned k sessions sent l = record {
+  rules-failing = (refl, (refl, (refl, (refl, (refl, tt)))));
+  done-succeeds = refl;
+}
+create-planned k films sent l = record {
+  rules-failing = (refl, (refl, (refl, (refl, (refl, tt)))));
+  done-succeeds = refl;
+}
+create-planned k boxes sent l = record { rules-failing = tt; done-succeeds = refl }
+create-planned k unknownClass sent l = record { rules-failing = tt; done-succeeds = refl }
+
+set-planned : (k : Core) (x : Instance) (uid : List ℕ) (l : Listing) → Planned (setPlan k x uid l)
+unfolding setPlan
+set-planned k nobody uid l = record { rules-failing = tt; done-succeeds = refl }
+set-planned k theSession uid l = record { rules-failing = (refl, (refl, (refl, tt))); done-succeeds = refl }
+set-planned k (theFilm i) uid l = record { rules-failing = (refl, (refl, (refl, tt))); done-succeeds = refl }
+set-planned k (theBox i j) uid l = record {
+  rules-failing = (refl, (refl, (refl, (refl, tt))));
+  done-succeeds = refl;
+}
+
+action-planned : (k : Core) (x : Instance) (uid : List ℕ) → Planned (actionPlan k x uid)
+unfolding actionPlan
+action-planned k nobody uid = record { rules-failing = tt; done-succeeds = refl }
+action-planned k theSession uid = record {
+  rules-failing = (refl, (refl, (refl, tt)));
+  done-succeeds = picked-succeeds (any noneFilled _) 0xB602 refl;
+}
+action-planned k (theFilm i) uid = record {
+  rules-failing = (refl, (refl, tt));
+  done-succeeds = picked-succeeds (any noneFilled _) 0xB603 refl;
+}
+action-planned k (theBox i j) uid = record { rules-failing = tt; done-succeeds = refl }
+
+delete-planned : (k : Core) (x : Instance) (uid : List ℕ) → Planned (deletePlan k x uid)
+unfolding deletePlan
+delete-planned k nobody uid = record { rules-failing = tt; done-succeeds = refl }
+delete-planned k theSession uid = record { rules-failing = tt; done-succeeds = refl }
+delete-planned k (theFilm i) uid = record { rules-failing = tt; done-succeeds = refl }
+delete-planned k (theBox i j) uid = record { rules-failing = tt; done-succeeds = refl }
+
+also-planned : (rules : List Rule) (p : Plan) → Failing rules → Planned p → Planned (also rules p)
+also-planned rules p f g = record { rules-failing = failing-both rules (p .rules) f (g .rules-failing); done-succeeds = g .done-succeeds }
+
+planned : (k : Core) (c : List ℕ) (d : DataSet) (o : Operation) → Planned (planOf k c d o)
+unfolding planOf
+planned k c d (Echo r) = record { rules-failing = tt; done-succeeds = refl }
+planned k c d (Create r) =
+    also-planned (createRules k c (r .sent)) _ (create-failing k c (r .sent))
+    (create-planned k (classOf (uidAt c (r .class))) (sentUid c (r .sent)) (listingOf (dataOf d) (explicitVR k)))
+planned k c d (Set r) =
+    also-planned (targetRules k c (r .class) (r .instance)) _ (target-failing k c (r .class) (r .instance))
+    (set-planned k (named k (uidAt c (r .instance))) (uidAt c (r .instance)) (listingOf (dataOf d) (explicitVR k)))
+planned k c d (Act r) =
+    also-planned (targetRules k c (r .class) (r .instance) ++ ((not (eqb (r .kind) 1) ⇒ 0x0123) ∷ [])) _
+    (act-failing k c (r .class) (r .instance) (r .kind))
+    (action-planned k (named k (uidAt c (r .instance))) (uidAt c (r .instance)))
+planned k c d (Delete r) =
+    also-planned (targetRules k c (r .class) (r .instance)) _ (target-failing k c (r .class) (r .instance))
+    (delete-planned k (named k (uidAt c (r .instance))) (uidAt c (r .instance)))
+
+request-statused : (k : Core) (c : List ℕ) (d : DataSet) (r : Request) → Statused (decideRequest k c d r)
+unfolding decideRequest reply
+request-statused k c d r =
+    let p = planned k c d (r .operation) in
+    failing-cases Statused (failed c r) (generalRules k c d (r .operation) ++ planOf k c d (r .operation) .rules) (answered c r (planOf k c d (r .operation) .done))
+    (failing-both (generalRules k c d (r .operation)) _ (general-failing k c d (r .operation)) (p .rules-failing))
+    (λ n f. f)
+    (p .done-succeeds)
+
+command-statused : (k : Core) (c : List ℕ) (d : DataSet) (x : Command) → Statused (decideCommand k c d x)
+unfolding reply
+command-statused k c d Unreadable = refl
+command-statused k c d (Unknown message field) = refl
+command-statused k c d (Known r) = request-statused k c d r
+
+-- Whatever is decided, its status says whether it failed.
+pub decide-statused : (k : Core) (c : List ℕ) (d : DataSet) → Statused (decide k c d)
+unfolding decide
+decide-statused k c d = command-statused k c d (understood c)
