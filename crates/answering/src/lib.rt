@@ -1,8 +1,7 @@
 // Answering: a fragment fed: collected, and a whole command decided and answered.
 use collecting::Answer;
 use instances::Data;
-ghost use mathlib.Core.Path.{_≡_};
-ghost use Rattle.rules.specs.Outcomes.{feeds};
+ghost use Rattle.runs.specs.Contracts.{FeedMet};
 
 // The bytes of the records.
 const RECORDS: usize = 7080;
@@ -15,7 +14,7 @@ pub fn feed(
     data_set: &mut [u8],
     report: &mut [u8],
 ) -> u32
-    ensures { λ r. ⌜ record { number = r; records = now (records .exit); message = now (message .exit); command = now (command .exit); dataSet = now (data_set .exit); report = now (report .exit) } ≡ feeds (record { records = now (records .entry); message = now (message .entry); command = now (command .entry); dataSet = now (data_set .entry); report = now (report .entry) }) (now (fragment .entry)) ⌝ }
+    ensures { λ r. ⌜ FeedMet (record { records = now (records .entry); message = now (message .entry); command = now (command .entry); dataSet = now (data_set .entry); report = now (report .entry) }) (now (fragment .entry)) r (record { records = now (records .exit); message = now (message .exit); command = now (command .exit); dataSet = now (data_set .exit); report = now (report .exit) }) ⌝ }
 {
     if records.len() < RECORDS {
         return 2;

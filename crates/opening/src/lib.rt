@@ -9,8 +9,8 @@ ghost use Rattle.choice.specs.Rules.{firstBroken};
 ghost use Rattle.rules.specs.Bounds.{rootLimit};
 ghost use Rattle.rules.specs.Lists.{filledTo};
 ghost use Rattle.rules.specs.Calls.{badRoot, badNumber, badContext, badSyntax, startRules, openRules, started, opened};
-ghost use Rattle.rules.specs.Outcomes.{starts, opens, closes};
-ghost use Rattle.runs.specs.Host.{startHanded, openHanded, nothingHanded};
+ghost use Rattle.runs.specs.Host.{startHanded, openHanded};
+ghost use Rattle.runs.specs.Contracts.{StartMet, OpenMet, CloseMet};
 
 // The bytes of the records.
 const RECORDS: usize = 7080;
@@ -88,7 +88,7 @@ fn started(root: &[u8], serial: u32, picture: u32) -> Core
 }
 
 pub fn start(records: &mut [u8], root: &[u8], serial: u32, picture: u32) -> u32
-    ensures { λ r. ⌜ record { number = r; records = now (records .exit) } ≡ starts (now (records .entry)) (startHanded (now (root .entry)) serial picture) ⌝ }
+    ensures { λ r. ⌜ StartMet (now (records .entry)) (now (root .entry)) serial picture r (now (records .exit)) ⌝ }
 {
     if records.len() < RECORDS {
         return 2;
@@ -152,7 +152,7 @@ fn opened(k: Core, room: usize, context: u32, syntax: u32) -> Core
 }
 
 pub fn open(records: &mut [u8], message: &[u8], context: u32, syntax: u32) -> u32
-    ensures { λ r. ⌜ record { number = r; records = now (records .exit) } ≡ opens (now (records .entry)) (openHanded context syntax (length (now (message .entry)))) ⌝ }
+    ensures { λ r. ⌜ OpenMet (now (records .entry)) (now (message .entry)) context syntax r (now (records .exit)) ⌝ }
 {
     if records.len() < RECORDS {
         return 2;
@@ -174,7 +174,7 @@ pub fn open(records: &mut [u8], message: &[u8], context: u32, syntax: u32) -> u3
 // Close.
 
 pub fn close(records: &mut [u8]) -> u32
-    ensures { λ r. ⌜ record { number = r; records = now (records .exit) } ≡ closes (now (records .entry)) nothingHanded ⌝ }
+    ensures { λ r. ⌜ CloseMet (now (records .entry)) r (now (records .exit)) ⌝ }
 {
     if records.len() < RECORDS {
         return 2;

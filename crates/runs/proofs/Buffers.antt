@@ -29,7 +29,12 @@ use Rattle.promises.proofs.Kept.{stateOf, sound-parts}
 use Rattle.promises.proofs.Good.{Byte, good-core, good-state, bytes-each}
 use Rattle.promises.proofs.Unpacked.{unpacked-good, unpacked-sized, CallBytes}
 use Rattle.promises.proofs.Next.{afterCall, after-sound, after-fits, next-records}
-use Rattle.runs.specs.Host.{RecordsGood}
+
+-- bytes, enough of them, in which the records keep their rules
+pub record RecordsGood (b : List ℕ) : Type 0 where
+  pub bytes : Bytes b
+  pub long : recordsSize ≤ length b
+  pub kept : sound (unpack b) ≡ true
 
 laid-bytes : (b bytes : List ℕ) → Bytes b → Bytes bytes → Bytes (laid b 0 bytes)
 laid-bytes b bytes o p i =

@@ -1,21 +1,26 @@
--- From good buffers no call is refused with 1: "records long enough break a rule" never holds.
+-- Over good records no call is refused with 1, "records long enough break a rule", in any run.
 -- Assumes nothing.
-use mathlib.Core.Path.{_≡_, refl, sym, ap, _∙_}
+use mathlib.Core.Path.{_≡_, sym, ap, _∙_, subst}
 use mathlib.Core.Option.{Option, none, some}
-use mathlib.Core.List.{List}
+use mathlib.Core.List.{List, [], _∷_}
 use Prim.Native.Nat.{ℕ}
 use native.Mathlib.Omega.{arith}
 use Rattle.strike.specs.Service as service
 use Rattle.strike.specs.Service.{DataSet, Result, fails, does, Call, start, feed, close, aside, Check, passes}
+use Rattle.strike.specs.Messages.{answers}
 use Rattle.strike.specs.Machine.{Fragment, fragmentIn, Outcome, ignores, waits, drops, asks, collect, Answer, Records, answered, carriedOut, fed, checked, step}
 use Rattle.rules.specs.declared.Core.{Core}
 use Rattle.rules.specs.Responses.{Reply}
 use Rattle.rules.specs.Checks.{decide}
 use Rattle.rules.specs.Calls.{Handed, reading, printing}
 use Rattle.rules.specs.Outcomes.{numberOf}
-use Rattle.runs.specs.Host.{Kept, HostCall, starting, opening, feeding, closing, taking, Shown, shows, viewOf, callOf, shown, Good}
+use Rattle.promises.proofs.ListLaws.{Each}
+use Rattle.runs.specs.Host.{Shown}
+use Rattle.runs.specs.Contracts.{Made}
+use Rattle.runs.specs.Runs.{Store, overBytes}
 use Rattle.runs.proofs.Refusals.{check-cases}
-use Rattle.runs.proofs.Right.{host-right}
+use Rattle.runs.proofs.Stored.{recordsGood, step-good}
+use Rattle.runs.proofs.Ran.{AllShown}
 
 abbrev NotOne : Answer Reply (List ℕ) → Type 0
 NotOne a = numberOf a ≡ 1 → ⊥
@@ -47,18 +52,18 @@ passed-number s (aside h) e = omega (arith, e)
 
 step-number : (s : Records Core) (c : Call Handed) → NotOne (step printing s c .answer)
 unfolding step checked numberOf
-step-number s c = check-cases (s .core) c (λ (x : Check). NotOne (checked printing x s c .answer)) (λ n two e. omega (arith, e)) (λ rules. passed-number s c)
+step-number s c = check-cases (s .core) c (λ (x : Check). NotOne (checked printing x s c .answer)) (λ n small e. omega (arith, e)) (λ rules. passed-number s c)
 
-number-shown : (h : HostCall) (a : Answer Reply (List ℕ)) → shown h a .number ≡ numberOf a
-unfolding shown
-number-shown (starting root serial picture) a = refl
-number-shown (opening context syntax) a = refl
-number-shown (feeding fragment bytes command dataSet report) a = refl
-number-shown closing a = refl
-number-shown (taking entry) a = refl
+abbrev pub NotRefused1 : Made → Type 0
+NotRefused1 m = m .shown .number ≡ 1 → ⊥
 
-pub never-refused-1 : (room : ℕ) (k : Kept) (h : HostCall) → Good room k → shows k h .number ≡ 1 → ⊥
-never-refused-1 room k h g e =
-    let a = step printing (viewOf k) (callOf room h) .answer in
-    step-number (viewOf k) (callOf room h)
-    (sym (ap (λ (x : Shown). x .number) (host-right room .right-shows k h g) ∙ number-shown h a) ∙ e)
+pub never-refused-1 : (cs : List (Call Handed)) (s : Records Core) (ms : List Made) → AllShown ms (answers overBytes (recordsGood s) cs) → Each NotRefused1 ms
+unfolding answers AllShown
+never-refused-1 [] s [] x = tt
+never-refused-1 [] s (m ∷ ms) x = absurd x
+never-refused-1 (c ∷ cs) s [] x = absurd x
+never-refused-1 (c ∷ cs) s (m ∷ ms) x =
+    let good = step-good s c in
+    let shown = ap (λ (y : Shown). y .number) (x .0 .same) ∙ ap (λ y. numberOf (y .answer)) good in
+    let rest = subst (λ (r : Records Store). AllShown ms (answers overBytes r cs)) (ap (λ y. y .records) good) (x .1) in
+    (λ e. step-number s c (sym shown ∙ e), never-refused-1 cs (step printing s c .records) ms rest)

@@ -1,33 +1,38 @@
--- Start, open and close over good records do what the machine does, and leave good records.
+-- Open and close over good records do what the machine does, and leave good records.
 -- Assumes nothing.
 use mathlib.Core.Path.{_≡_, refl, sym, ap, _∙_, subst}
-use mathlib.Core.List.{List, [], _∷_}
-use Prim.Native.Nat.{ℕ, _≤_}
+use mathlib.Core.List.{List, []}
+use Prim.Native.Nat.{ℕ}
 use native.Mathlib.Omega.{arith}
-use borrow.Author.Tests.{le-ltb, eqb-true}
-use lib.Dec.{eqb, ltb}
-use lib.ListN.{length}
-use Rattle.choice.specs.Rules.{_⇒_, firstOr}
+use borrow.Author.Tests.{eqb-true}
+use lib.Dec.{eqb}
+use Rattle.choice.specs.Rules.{firstOr}
 use Rattle.choice.proofs.Picks.{pick-cases, first-kept}
-use Rattle.strike.specs.Service.{Call, start, opening, close, Check, passes, refuses}
+use Rattle.strike.specs.Service.{Call, opening, close, Check, passes, refuses}
 use Rattle.strike.specs.Machine as machine
 use Rattle.strike.specs.Machine.{idle, done, Step, leaves, checked, step}
+use Rattle.strike.proofs.Lies.{AnswerLies}
 use Rattle.rules.specs.declared.Core.{Core}
 use Rattle.rules.specs.Responses.{Reply}
-use Rattle.rules.specs.Layout.{recordsSize, unpack}
-use Rattle.rules.specs.Calls.{Handed, check, started, opened, closed, printing}
-use Rattle.rules.specs.Outcomes.{inputIn, recordsIn, numberOf, recordsRules, Outcome, changed, unchanged, orUnchanged, starts, opens, closes}
+use Rattle.rules.specs.Layout.{unpack}
+use Rattle.rules.specs.Calls.{Handed, check, opened, closed, printing}
+use Rattle.rules.specs.Outcomes.{inputIn, recordsIn, numberOf, recordsRules, Outcome, changed, unchanged, orUnchanged, opens, closes}
 use Rattle.promises.proofs.Unpacked.{CallBytes}
 use Rattle.promises.proofs.Next.{afterCall}
-use Rattle.runs.specs.Host.{RecordsGood}
-use Rattle.runs.proofs.Buffers.{left-good, left-view}
-use Rattle.runs.proofs.Refusals.{records-accepted, check-cases}
+use Rattle.runs.specs.Host.{noBuffers}
+use Rattle.runs.proofs.Buffers.{RecordsGood, left-good, left-view}
+use Rattle.runs.proofs.Refusals.{records-accepted, Refusal, check-cases}
+use Rattle.runs.proofs.Answers.{writtenBy, Proper}
 
--- an outcome is that of a step of the machine, whatever stands in the message buffer
+-- an outcome is that of a step of the machine; once it is done, whatever stands in the message buffer
 pub record OutcomeRight (message : List ℕ) (s : Step Core Reply (List ℕ)) (x : Outcome) : Type 0 where
   pub good : RecordsGood (x .records)
   pub view : recordsIn (unpack (x .records)) message ≡ s .records
+  pub done-view : x .number ≡ 0 → (now : List ℕ) → recordsIn (unpack (x .records)) now ≡ s .records
   pub number : x .number ≡ numberOf (s .answer)
+  pub quiet : writtenBy (s .answer) ≡ noBuffers
+  pub lies : (now : List ℕ) → AnswerLies (s .answer) now
+  pub proper : Proper noBuffers (s .answer)
 
 -- a call that, once passed, leaves a core and no message half collected
 module _ (b message : List ℕ) (c : Call Handed) (good : RecordsGood b) (bytes : CallBytes c) (left : Core)
@@ -35,12 +40,12 @@ module _ (b message : List ℕ) (c : Call Handed) (good : RecordsGood b) (bytes 
   abbrev Right : Check → Type 0
   Right x = OutcomeRight message (checked printing x (recordsIn (unpack b) message) c) (orUnchanged b (checked printing x (recordsIn (unpack b) []) c))
 
-  right-refused : (n : ℕ) → 2 ≤ n → Right (refuses n)
+  right-refused : (n : ℕ) → Refusal n → Right (refuses n)
   unfolding checked numberOf
   right-refused n h =
       pick-cases (OutcomeRight message (checked printing (refuses n) (recordsIn (unpack b) message) c)) (eqb n 0) (changed b (checked printing (refuses n) (recordsIn (unpack b) []) c)) (unchanged b n)
       (λ e. let z : n ≡ 0 = eqb-true n 0 e in absurd (omega arith))
-      (λ e. record { good = good; view = refl; number = refl })
+      (λ e. record { good = good; view = refl; done-view = λ z now. let f : n ≡ 0 = z in absurd (omega arith); number = refl; quiet = refl; lies = λ now. tt; proper = h .1 })
 
   left-records : check (unpack b .core) c ≡ passes → afterCall b message c ≡ record { core = left; input = idle }
   unfolding step
@@ -55,7 +60,11 @@ module _ (b message : List ℕ) (c : Call Handed) (good : RecordsGood b) (bytes 
       (record {
         good = left-good b message c good bytes (record { core = left; input = idle }) (left-records e);
         view = left-view b message c good bytes (record { core = left; input = idle }) message (left-records e) tt;
+        done-view = λ z now. left-view b message c good bytes (record { core = left; input = idle }) now (left-records e) tt;
         number = refl;
+        quiet = refl;
+        lies = λ now. tt;
+        proper = tt;
       })
 
   outcome-right : OutcomeRight message (step printing (recordsIn (unpack b) message) c) (orUnchanged b (step printing (recordsIn (unpack b) []) c))
@@ -67,14 +76,7 @@ module _ (b message : List ℕ) (h : Handed) (good : RecordsGood b) where
   abbrev RightCall : Call Handed → Outcome → Type 0
   RightCall c x = OutcomeRight message (step printing (recordsIn (unpack b) message) c) x
 
-  pub starts-right : RightCall (start h) (starts b h)
-  unfolding starts checked
-  starts-right =
-      subst (RightCall (start h))
-      (sym (first-kept (unchanged b) ((ltb (length b) recordsSize ⇒ 2) ∷ []) (orUnchanged b (step printing (recordsIn (unpack b) []) (start h))) (le-ltb (length b) recordsSize (good .long), tt)))
-      (outcome-right b message (start h) good tt (started h) (λ i. refl))
-
-  -- open and close look at the records first
+  -- they look at the records first
   accepted : (c : Call Handed) → RightCall c (orUnchanged b (step printing (recordsIn (unpack b) []) c)) → RightCall c (firstOr (unchanged b) (recordsRules b) (orUnchanged b (step printing (recordsIn (unpack b) []) c)))
   accepted c x = subst (RightCall c) (sym (first-kept (unchanged b) (recordsRules b) (orUnchanged b (step printing (recordsIn (unpack b) []) c)) (records-accepted b good))) x
 

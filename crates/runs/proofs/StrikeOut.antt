@@ -1,66 +1,92 @@
--- DEMAND 3 over the bytes of the calls.
+-- DEMAND 3 over the bytes of the calls, of calls that meet their contracts.
 -- Assumes nothing.
-use mathlib.Core.Path.{_≡_, refl, sym, ap, _∙_}
+use mathlib.Core.Path.{_≡_, refl, sym, ap, _∙_, subst}
+use mathlib.Core.Bool.{Bool, true, false}
 use mathlib.Core.List.{List, [], _∷_}
 use Prim.Native.Nat.{ℕ}
-use lib.ListN.{length}
-use Rattle.strike.specs.Messages.{leftOf, answersOf, together}
-use Rattle.strike.proofs.Refine.{acts}
-use Rattle.strike.proofs.Showing.{showings, ended, whole-showings, strike-out-showing, strike-out-left}
-use Rattle.rules.specs.Calls.{printing}
-use Rattle.runs.specs.Host.{Kept, HostCall, does, Shown, shows, viewOf, callOf, shown, RecordsGood, Good}
-use Rattle.runs.specs.Runs.{keptAfter, shownBy, eventsOf, coreIn, StrikeOutBytes, StrikeOutAnswers}
-use Rattle.runs.proofs.Right.{host-right}
+use Rattle.choice.specs.Pick.{pick}
+use Rattle.octets.specs.Octets.{Bytes}
+use Rattle.strike.specs.Service.{Call}
+use Rattle.strike.specs.Machine.{Answer, Records, step}
+use Rattle.strike.specs.Messages as messages
+use Rattle.strike.specs.Messages.{Count, countAfter, Event, struck, without, callsOf, answersOf, strikeable, roleOf, eventOf, historyFrom, history, answers, after}
+use Rattle.strike.proofs.Fate.{strike-out}
+use Rattle.strike.proofs.Refine.{history-answers}
+use Rattle.rules.specs.Responses.{Reply}
+use Rattle.rules.specs.Calls.{Handed}
+use Rattle.runs.specs.Host.{Kept}
+use Rattle.runs.specs.Contracts.{byContract, Made}
+use Rattle.runs.specs.Runs.{Store, overBytes, viewOf, coreIn, Ran, lastLeft, callsRead, eventsOf, SameAnswer, Pairwise, leftOf, StrikeOut}
+use Rattle.runs.proofs.Stored.{coreOf, store-core}
+use Rattle.runs.proofs.Ran.{AllShown, run-shown}
+use Rattle.runs.proofs.Same.{same-answer, fate-shown}
 
-module _ (room : ℕ) where
-  abbrev endedBy : Kept → List HostCall → Kept
-  endedBy k hs = ended printing Kept HostCall Shown (Good room) viewOf (callOf room) does shows shown k hs
+abbrev Events : Type 0
+Events = List (Event Handed Reply (List ℕ))
 
-  abbrev showingsBy : Kept → List HostCall → List Shown
-  showingsBy k hs = showings printing Kept HostCall Shown (Good room) viewOf (callOf room) does shows shown k hs
+-- The calls that are left, and what they show.
 
-  kept-ended : (k : Kept) (hs : List HostCall) → keptAfter k hs ≡ endedBy k hs
-  unfolding keptAfter acts
-  kept-ended k [] = refl
-  kept-ended k (h ∷ hs) = kept-ended (does k h) hs
+calls-if : (b : Bool) (c : Call Handed) (cs : List (Call Handed)) (e : Event Handed Reply (List ℕ)) (es : Events) → c ≡ e .call → cs ≡ callsOf es → pick b cs (c ∷ cs) ≡ callsOf (pick b es (e ∷ es))
+calls-if true c cs e es p q = q
+calls-if false c cs e es p q = rw (p, q)
 
-  shown-showings : (k : Kept) (hs : List HostCall) → shownBy k hs ≡ showingsBy k hs
-  unfolding shownBy showings
-  shown-showings k [] = refl
-  shown-showings k (h ∷ hs) = ap (λ (rest : List Shown). shows k h ∷ rest) (shown-showings (does k h) hs)
+calls-left : (S : ℕ → Bool) (cs : List (Call Handed)) (r : Records Store) (n : Count) → leftOf S (historyFrom overBytes r n cs) cs ≡ callsOf (without S (historyFrom overBytes r n cs))
+unfolding leftOf without historyFrom eventOf
+calls-left S [] r n = refl
+calls-left S (c ∷ cs) r n =
+    let e = eventOf overBytes r n c in
+    let es = historyFrom overBytes (step overBytes r c .records) (countAfter (roleOf overBytes r c) n) cs in
+    calls-if (struck S (e .message)) c (leftOf S es cs) e (without S es) refl (calls-left S cs (step overBytes r c .records) (countAfter (roleOf overBytes r c) n))
 
-  core-ended : (k : Kept) (hs gs : List HostCall) → coreIn (endedBy k gs) ≡ coreIn (endedBy k hs) → coreIn (keptAfter k gs) ≡ coreIn (keptAfter k hs)
-  core-ended k hs gs e = ap coreIn (kept-ended k gs) ∙ e ∙ sym (ap coreIn (kept-ended k hs))
+shown-if : (b : Bool) (m : Made) (ms : List Made) (e : Event Handed Reply (List ℕ)) (es : Events) → AllShown (m ∷ []) (e .answer ∷ []) → AllShown ms (answersOf es) → AllShown (pick b ms (m ∷ ms)) (answersOf (pick b es (e ∷ es)))
+unfolding AllShown
+shown-if true m ms e es x y = y
+shown-if false m ms e es x y = (x .0, y)
 
-abbrev good-start : (k : Kept) → RecordsGood (k .records) → Good (length (k .message)) k
-good-start k good = record { records = good; fixed = refl }
+shown-left : (S : ℕ → Bool) (es : Events) (ms : List Made) → AllShown ms (answersOf es) → AllShown (leftOf S es ms) (answersOf (without S es))
+unfolding leftOf without AllShown
+shown-left S [] [] x = tt
+shown-left S [] (m ∷ ms) x = absurd x
+shown-left S (e ∷ es) [] x = absurd x
+shown-left S (e ∷ es) (m ∷ ms) x = shown-if (struck S (e .message)) m (leftOf S es ms) e (without S es) (x .0, tt) (shown-left S es ms (x .1))
 
--- what a run shows is the machine's answers, each in the buffers lent for it, and nothing else
-pub whole-shown : (k : Kept) → RecordsGood (k .records) → (hs : List HostCall) → shownBy k hs ≡ together shown hs (answersOf (eventsOf k hs))
-whole-shown k good hs =
-    let room = length (k .message) in
-    shown-showings room k hs ∙ whole-showings printing Kept HostCall Shown (Good room) viewOf (callOf room) does shows shown (host-right room) k (good-start k good) hs
+paired : (ms ns : List Made) (given : List (Answer Reply (List ℕ))) → AllShown ms given → AllShown ns given → Pairwise SameAnswer ms ns
+unfolding AllShown Pairwise
+paired [] [] [] x y = tt
+paired [] [] (a ∷ given) x y = absurd x
+paired [] (n ∷ ns) [] x y = absurd y
+paired [] (n ∷ ns) (a ∷ given) x y = absurd x
+paired (m ∷ ms) [] [] x y = absurd x
+paired (m ∷ ms) [] (a ∷ given) x y = absurd y
+paired (m ∷ ms) (n ∷ ns) [] x y = absurd x
+paired (m ∷ ms) (n ∷ ns) (a ∷ given) x y = (same-answer m n a (x .0) (y .0), paired ms ns given (x .1) (y .1))
 
--- Strike any whole messages that were answered with a failure, dropped, or cut off by the next command: every other call shows the same,
--- byte for byte, and sessions, films, boxes, queue and next numbers end the same in the records' bytes.
-pub bytes-strike-out : StrikeOutBytes
-unfolding StrikeOutBytes
-bytes-strike-out k good hs S may =
-    let room = length (k .message) in
-    let left = leftOf S (eventsOf k hs) hs in
-    let x = strike-out-left printing Kept HostCall Shown (Good room) viewOf (callOf room) does shows shown (host-right room) k (good-start k good) hs S may in
+-- each call of a run shows the answer of its event
+pub events-shown : (k : Kept) (ms : List Made) → Bytes (k .records) → Ran byContract k ms → AllShown ms (answersOf (eventsOf k ms))
+unfolding history
+events-shown k ms o ran = subst (AllShown ms) (sym (history-answers overBytes (callsRead ms) (viewOf k) _)) (run-shown k ms o ran .all)
+
+-- The core in the records' bytes at the end.
+core-ended : (l : Kept) (r : Records Store) → viewOf l ≡ r → coreIn l ≡ coreOf (r .core)
+core-ended l r e = sym (store-core (l .records)) ∙ ap (λ (x : Records Store). coreOf (x .core)) e
+
+-- Strike any whole messages that were answered with a failure, dropped, or cut off by the next command: every other call shows the same
+-- answer, byte for byte, and sessions, films, boxes, queue and next numbers end the same in the records' bytes.
+pub contracts-strike-out : StrikeOut byContract
+unfolding StrikeOut messages.StrikeOut history
+contracts-strike-out k o whole struck ran left S may calls =
+    let es = eventsOf k whole in
+    let W = run-shown k whole o ran in
+    let X = run-shown k struck o left in
+    let all = events-shown k whole o ran in
+    let same = strike-out overBytes (viewOf k) (callsRead whole) S (λ i h. sym (ap strikeable (fate-shown i es whole all)) ∙ may i h) in
+    let read : callsRead struck ≡ callsOf (without S es) = calls ∙ calls-left S (callsRead whole) (viewOf k) _ in
+    let rest : AllShown struck (answersOf (without S es)) =
+    subst (AllShown struck) (ap (answers overBytes (viewOf k)) read ∙ same .same-answers) (X .all) in
     record {
-      same-shown = shown-showings room k left ∙ x .left-showings ∙ ap (leftOf S (eventsOf k hs)) (sym (shown-showings room k hs));
-      same-core = core-ended room k hs left (x .left-core);
-    }
-
--- the same where other bytes stood in the buffers lent for answers
-pub answers-strike-out : StrikeOutAnswers
-unfolding StrikeOutAnswers
-answers-strike-out k good hs S may gs e =
-    let room = length (k .message) in
-    let x = strike-out-showing printing Kept HostCall Shown (Good room) viewOf (callOf room) does shows shown (host-right room) k (good-start k good) hs S may gs e in
-    record {
-      same-answers = shown-showings room k gs ∙ x .same-showings;
-      same-core = core-ended room k hs gs (x .same-core);
+      same-answers = paired (leftOf S es whole) struck (answersOf (without S es)) (shown-left S es whole all) rest;
+      same-core =
+          core-ended (lastLeft k struck) _ (X .ended)
+          ∙ ap coreOf (ap (λ (cs : List (Call Handed)). after overBytes (viewOf k) cs .core) read ∙ same .same-core)
+          ∙ sym (core-ended (lastLeft k whole) _ (W .ended));
     }

@@ -1,3 +1,3 @@
 pub mod Host
-pub mod Runs
 pub mod Contracts
+pub mod Runs

@@ -3,6 +3,5 @@ pub mod Fate
 pub mod Collecting
 pub mod Lies
 pub mod Refine
-pub mod Showing
 pub mod Fakes
 pub mod Toy

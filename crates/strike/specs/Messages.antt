@@ -79,23 +79,11 @@ unfoldable pub without : {Arg Response Told : Type 0} → (ℕ → Bool) → Lis
 without S [] = []
 without S (e ∷ es) = pick (struck S (e .message)) (without S es) (e ∷ without S es)
 
--- of a list with one element for each event, those whose events are left
-unfoldable pub leftOf : {Arg Response Told A : Type 0} → (ℕ → Bool) → List (Event Arg Response Told) → List A → List A
-leftOf S [] xs = []
-leftOf S (e ∷ es) [] = []
-leftOf S (e ∷ es) (x ∷ xs) = pick (struck S (e .message)) (leftOf S es xs) (x ∷ leftOf S es xs)
-
 abbrev pub callsOf : {Arg Response Told : Type 0} → List (Event Arg Response Told) → List (Call Arg)
 callsOf es = map (λ e. e .call) es
 
 abbrev pub answersOf : {Arg Response Told : Type 0} → List (Event Arg Response Told) → List (Answer Response Told)
 answersOf es = map (λ e. e .answer) es
-
--- two lists, element by element: what each call shows of its answer
-unfoldable pub together : {A B C : Type 0} → (A → B → C) → List A → List B → List C
-together f [] ys = []
-together f (x ∷ xs) [] = []
-together f (x ∷ xs) (y ∷ ys) = f x y ∷ together f xs ys
 
 -- how a message ended; unsettled: by a close, a start or the run's end
 pub data Fate : Type 0 where

@@ -1,13 +1,13 @@
 -- The oldest entry: its bytes, and that it fits the place that they are laid in.
 -- Assumes nothing.
-use Prim.Native.Nat.{ℕ, zero, suc, _+_, _*_, _-_, _≤_}
+use Prim.Native.Nat.{ℕ, zero, suc, _-_, _≤_}
 use mathlib.Core.Path.{_≡_, refl, sym, ap, subst, _∙_}
 use mathlib.Core.Bool as bool
 use mathlib.Core.Bool.{Bool, true, false}
 use mathlib.Core.List.{List, [], _∷_, _++_, append-assoc, append-nil}
 use native.Mathlib.Omega.{arith}
 use lib.Dec.{eqb}
-use lib.ListN.{length, getD, take, replicate, length-append, length-take}
+use lib.ListN.{length, getD, take, replicate, length-take}
 use lib.Seq.{take-suc, take-all}
 use borrow.Author.Tests.{eqb-true, eqb-false, ltb-false, not-false}
 use Rattle.choice.specs.Pick.{pick}
@@ -37,6 +37,7 @@ use Rattle.promises.proofs.Facts.{between-true, core-facts, numbers-facts, queu
 use Rattle.promises.proofs.Sized.{EntrySized, Sized}
 use Rattle.promises.proofs.Tidy.{tidy-queue, queue-few}
 use Rattle.promises.proofs.Kept.{sound-parts}
+use Rattle.promises.proofs.EntryBack.{pictures-length}
 use Rattle.promises.proofs.Unpacked.{unpacked-sized}
 use Rattle.shelves.proofs.Filled.{laid-filled}
 use Rattle.runs.specs.Host.{takeHanded}
@@ -59,11 +60,6 @@ first-pictures (suc n) ps h =
 all-pictures : (ps : List Picture) → length ps ≡ 36 → bytesAll pictureFormat ps 36 ≡ pictureBytes ps
 all-pictures ps e = first-pictures 36 ps (omega arith) ∙ ap pictureBytes (take-all 36 ps (omega arith))
 
-picture-size : (ps : List Picture) → length (pictureBytes ps) ≡ 4 * length ps
-unfolding pictureBytes
-picture-size [] = refl
-picture-size (p ∷ ps) = simp (length-append, octets-length, picture-size ps) (omega arith)
-
 -- An entry's parts, laid one after the other.
 
 pub entry-laid : (s m n o p : List ℕ) (k : Numbers) (e : Entry) (uid : List ℕ) → 212 ≤ length s → length (e .pictures) ≡ 36
@@ -72,7 +68,7 @@ pub entry-laid : (s m n o p : List ℕ) (k : Numbers) (e : Entry) (uid : List �
 unfolding write entryBytes
 entry-laid s m n o p k e uid long full em en eo eu ep =
     let pictures = pictureBytes (e .pictures) in
-    let size = picture-size (e .pictures) in
+    let size = pictures-length (e .pictures) in
     let ticket = octets-length 2 (e .ticket) in
     let copies = octets-length 2 (e .copies) in
     let laid-pictures = em ∙ ap (laid s 0) (all-pictures (e .pictures) full) in

@@ -14,8 +14,8 @@ ghost use Rattle.uids.specs.Uids.{made};
 ghost use Rattle.rules.specs.Lists.{filledTo};
 ghost use Rattle.rules.specs.Records.{rootOf, uidOf, noEntry, entriesOf, queued, withQueue};
 ghost use Rattle.rules.specs.Calls.{takeRules, entryBytes};
-ghost use Rattle.rules.specs.Outcomes.{takes};
 ghost use Rattle.runs.specs.Host.{takeHanded};
+ghost use Rattle.runs.specs.Contracts.{TakeMet};
 
 // The bytes of the records.
 const RECORDS: usize = 7080;
@@ -111,7 +111,7 @@ fn without_oldest(k: Core) -> Core
 }
 
 pub fn take(records: &mut [u8], entry: &mut [u8]) -> u32
-    ensures { λ r. ⌜ record { number = r; records = now (records .exit); entry = now (entry .exit) } ≡ takes (now (records .entry)) (now (entry .entry)) (takeHanded (length (now (entry .entry)))) ⌝ }
+    ensures { λ r. ⌜ TakeMet (now (records .entry)) (now (entry .entry)) r (now (records .exit)) (now (entry .exit)) ⌝ }
 {
     if records.len() < RECORDS {
         return 2;

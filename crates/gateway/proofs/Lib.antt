@@ -1,0 +1,3 @@
+-- What the exported functions tell, and the demands that they meet.
+pub mod Exported
+pub mod Demands
