@@ -6,11 +6,11 @@ use mathlib.Core.List.{List, [], _∷_}
 use Prim.Native.Nat.{ℕ}
 use lib.Dec.{eqb, leb}
 use lib.ListN.{length}
-use Rattle.choice.specs.Pick.{pick, both}
-use Rattle.choice.proofs.Picks.{both-true, both-holds, not-false, not-true, clash}
+use Rattle.choice.specs.Pick.{pick}
+use Rattle.choice.proofs.Picks.{both-true, both-holds, not-false, clash}
 use Rattle.octets.specs.Octets.{Bytes}
 use Rattle.strike.specs.Machine as machine
-use Rattle.strike.specs.Machine.{idle, inCommand, skippingCommand, inData, skippingData, Answer, Records, step}
+use Rattle.strike.specs.Machine.{idle, inCommand, skippingCommand, inData, skippingData, Answer, Records}
 use Rattle.strike.specs.Messages.{answers, after}
 use Rattle.strike.proofs.Lies.{AnswerLies}
 use Rattle.rules.specs.declared.Opened.{Opened}
@@ -25,7 +25,7 @@ use Rattle.runs.specs.Host.{Kept, lentBy}
 use Rattle.runs.specs.Contracts.{byContract, Made}
 use Rattle.runs.specs.Runs.{Store, usable, storeIn, overBytes, viewOf, inAssociation, HandedBack, Ran, lastLeft, callsRead}
 use Rattle.runs.proofs.Answers.{shownOf, Proper}
-use Rattle.runs.proofs.Right.{Stepped, met-steps}
+use Rattle.runs.proofs.Right.{met-steps}
 
 -- Buffers handed back hold the records that were left.
 

@@ -1,15 +1,13 @@
 -- Every call that meets its contract, over any bytes, leaves and shows what one step of the machine does and answers.
 -- Assumes nothing.
-use mathlib.Core.Path.{_≡_, refl, sym, ap, _∙_, subst}
+use mathlib.Core.Path.{_≡_, refl, ap, _∙_}
 use mathlib.Core.Bool.{Bool, true, false}
-use mathlib.Core.List.{List, [], _∷_}
-use Prim.Native.Nat.{ℕ, _≤_}
+use mathlib.Core.List.{List}
+use Prim.Native.Nat.{ℕ}
 use native.Mathlib.Omega.{arith}
 use borrow.Author.Tests.{ne-eqb, eqb-true}
 use lib.Dec.{eqb}
 use lib.ListN.{length}
-use Rattle.choice.specs.Pick.{pick}
-use Rattle.choice.specs.Rules.{firstOr}
 use Rattle.choice.proofs.Picks.{pick-cases}
 use Rattle.octets.specs.Octets.{Bytes}
 use Rattle.strike.specs.Service as service
@@ -30,7 +28,7 @@ use Rattle.runs.proofs.Buffers.{RecordsGood}
 use Rattle.runs.proofs.Refusals.{Broken, useless-broken}
 use Rattle.runs.proofs.Stored.{recordsGood, stepGood, step-good, usable-good, good-usable, good-view, useless-view}
 use Rattle.runs.proofs.Begins.{starts-right}
-use Rattle.runs.proofs.Opens.{OutcomeRight, opens-right, closes-right}
+use Rattle.runs.proofs.Opens.{opens-right, closes-right}
 use Rattle.runs.proofs.Takes.{takes-right}
 use Rattle.runs.proofs.Feeds.{feeds-right}
 

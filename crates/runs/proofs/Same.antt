@@ -1,9 +1,9 @@
 -- Two calls that show one answer of the machine show the same, and how a message ended is what the host was shown.
 -- Assumes nothing.
-use mathlib.Core.Path.{_≡_, refl, sym, ap, _∙_, subst}
-use mathlib.Core.Bool.{Bool, true, false}
+use mathlib.Core.Path.{_≡_, refl, sym, ap, _∙_}
+use mathlib.Core.Bool.{Bool}
 use mathlib.Core.List.{List, [], _∷_}
-use Prim.Native.Nat.{ℕ, zero, suc, _+_, _-_, _≤_, _<_}
+use Prim.Native.Nat.{ℕ, zero, suc, _+_, _-_, _≤_}
 use native.Mathlib.Omega.{arith}
 use borrow.Author.Tests.{ne-eqb}
 use lib.Dec.{eqb}
@@ -14,7 +14,7 @@ use Rattle.octets.specs.Octets.{numberAt, part, laid}
 use Rattle.octets.proofs.Laid.{laid-stands}
 use Rattle.strike.specs.Service.{DataSet, noData, whole, tooLong}
 use Rattle.strike.specs.Machine.{Answer, refused, done, told, ignored, wait, dropped, failure, success}
-use Rattle.strike.specs.Messages.{Event, Fate, wasDropped, wasCutOff, failed, succeeded, says, isOf, answersOf, fateOf}
+use Rattle.strike.specs.Messages.{Event, Fate, wasCutOff, failed, succeeded, says, isOf, answersOf, fateOf}
 use Rattle.strike.proofs.Lies.{DataLies, AnswerLies}
 use Rattle.rules.specs.Commands.{numberIn}
 use Rattle.rules.specs.Responses.{Note, noNote, filmsQueued, pictureAt, isFailure, Reply}
@@ -25,7 +25,7 @@ use Rattle.promises.proofs.Notes.{NoteWithin}
 use Rattle.promises.proofs.ReportBack.{ReportMeans, report-length, report-reads}
 use Rattle.runs.specs.Host.{HostCall, Buffers, lentBy, Shown}
 use Rattle.runs.specs.Contracts.{Made}
-use Rattle.runs.specs.Runs.{statusShown, fateIn, fateShown, WrittenOver, SameWritten, pixelsIn, SameAnswer}
+use Rattle.runs.specs.Runs.{statusShown, fateIn, fateShown, pixelsIn, SameAnswer}
 use Rattle.runs.proofs.Answers.{writtenBy, shownOf, Responds, Proper}
 use Rattle.runs.proofs.Ran.{ShownAs, AllShown}
 

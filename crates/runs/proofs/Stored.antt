@@ -1,28 +1,26 @@
 -- Printing over bytes: over good records it is printing, and the records in the two buffers are what the machine has.
 -- Assumes nothing.
-use mathlib.Core.Path.{_≡_, refl, sym, ap, _∙_}
+use mathlib.Core.Path.{_≡_, refl}
 use mathlib.Core.Bool.{Bool, true, false}
 use mathlib.Core.Option.{Option, none, some}
 use mathlib.Core.List.{List}
-use Prim.Native.Nat.{ℕ, _≤_}
-use native.Mathlib.Omega.{arith}
-use borrow.Author.Tests.{leb-true, le-leb, eqb-true}
-use lib.Dec.{eqb, leb}
+use Prim.Native.Nat.{ℕ}
+use borrow.Author.Tests.{leb-true, le-leb}
+use lib.Dec.{leb}
 use lib.ListN.{length}
-use Rattle.choice.specs.Pick.{pick, both, not}
-use Rattle.choice.proofs.Picks.{both-true, both-holds, not-false, clash}
+use Rattle.choice.specs.Pick.{pick, not}
+use Rattle.choice.proofs.Picks.{both-true, both-holds}
 use Rattle.octets.specs.Octets.{Bytes}
 use Rattle.strike.specs.Service as service
 use Rattle.strike.specs.Service.{DataSet, Result, fails, does, Call, start, feed, close, aside, Check, passes, refuses}
-use Rattle.strike.specs.Machine.{Fragment, fragmentIn, Input, idle, Outcome, ignores, waits, drops, asks, collect, Records, Step, answered, carriedOut, fed, checked, step}
+use Rattle.strike.specs.Machine.{Fragment, fragmentIn, idle, Outcome, ignores, waits, drops, asks, collect, Records, Step, answered, carriedOut, fed, checked, step}
 use Rattle.rules.specs.declared.Core.{Core}
 use Rattle.rules.specs.Responses.{Reply}
-use Rattle.rules.specs.Records.{isOpen}
 use Rattle.rules.specs.Sound.{sound}
 use Rattle.rules.specs.Layout.{recordsSize, unpack}
 use Rattle.rules.specs.Checks.{decide}
 use Rattle.rules.specs.Calls.{Handed, check, reading, printing}
-use Rattle.rules.specs.Outcomes.{inputIn, recordsIn}
+use Rattle.rules.specs.Outcomes.{recordsIn}
 use Rattle.runs.specs.Host.{Kept}
 use Rattle.runs.specs.Runs.{Store, good, useless, usable, storeIn, storeCheck, resultGood, overBytes, viewOf}
 use Rattle.runs.proofs.Buffers.{RecordsGood}
