@@ -8,9 +8,9 @@
 #include "../include/gateway_records.h"
 #include "data_sets.h"
 
-/* Lines of boxes, so many in each: rows or, where it is turned, columns. */
+/* Lines of boxes, so many in each: rows or, with COL, columns. */
 struct sheet {
-    uint8_t turned, lines, counts[GATEWAY_LINES];
+    uint8_t kind, lines, counts[GATEWAY_LINES];
 };
 
 /* By ticket: those of the entries in the queue are sixteen in a row at most. */
@@ -29,7 +29,7 @@ static void keep_layout(const uint8_t *records, const uint8_t *entry)
         const uint8_t *film = records + GATEWAY_AT_FILMS + i * GATEWAY_FILM_BYTES;
         if (memcmp(film + GATEWAY_FILM_NAME, entry + GATEWAY_QUEUED_NAME, GATEWAY_NAME_BYTES) != 0)
             continue;
-        sheet->turned = film[GATEWAY_FILM_TURNED];
+        sheet->kind = film[GATEWAY_FILM_KIND];
         sheet->lines = film[GATEWAY_FILM_LINES];
         memcpy(sheet->counts, film + GATEWAY_FILM_COUNTS, GATEWAY_LINES);
     }
@@ -45,7 +45,8 @@ void keep_layouts(const uint8_t *records, size_t queued)
 /* The position, from 0, of the box in a row and a column; -1 where there is none. */
 static int box_at(const struct sheet *sheet, int row, int column)
 {
-    int line = sheet->turned ? column : row, place = sheet->turned ? row : column;
+    bool columns = sheet->kind == GATEWAY_COL;
+    int line = columns ? column : row, place = columns ? row : column;
     if (row < 0 || line >= sheet->lines || place >= sheet->counts[line])
         return -1;
     for (int i = 0; i < line; i++)

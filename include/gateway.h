@@ -20,16 +20,17 @@
 #include <stddef.h>
 #include <stdint.h>
 
+#include "gateway_records.h"
+
 #ifdef __cplusplus
 extern "C" {
 #endif
 
-/* How many bytes each buffer has at least. More may be lent: bytes past those written stay. */
-#define GATEWAY_RECORDS 7080
+/* How many bytes each buffer has at least; the records have GATEWAY_RECORDS. More may be lent: bytes past those written
+ * stay. */
 #define GATEWAY_COMMAND 256 /* a response's command set */
 #define GATEWAY_DATA 8192   /* a created film's data set */
 #define GATEWAY_REPORT 20   /* what a response comes to */
-#define GATEWAY_ENTRY 212   /* an entry of the queue */
 
 /* The message buffer, which holds one request's data set; its length is fixed at open. */
 #define GATEWAY_MESSAGE_LEAST 4096
@@ -105,9 +106,10 @@ uint32_t gateway_take(uint8_t *records, size_t records_length, uint8_t *entry, s
 /* Where things stand in the entry, little endian. */
 enum {
     GATEWAY_ENTRY_PICTURES = 0, /* 36 numbers of four bytes in position order, 0 where a position is empty */
-    GATEWAY_ENTRY_TICKET = 144, /* two bytes */
-    GATEWAY_ENTRY_COPIES = 146, /* two bytes */
-    GATEWAY_ENTRY_UID = 148     /* the film's, 64 characters, filled up with zeros */
+    GATEWAY_ENTRY_TICKET = GATEWAY_ENTRY_PICTURES + 36 * 4, /* two bytes */
+    GATEWAY_ENTRY_COPIES = GATEWAY_ENTRY_TICKET + 2,        /* two bytes */
+    GATEWAY_ENTRY_UID = GATEWAY_ENTRY_COPIES + 2,           /* the film's, 64 characters, filled up with zeros */
+    GATEWAY_ENTRY = GATEWAY_ENTRY_UID + 64                  /* so many bytes has the buffer for an entry at least */
 };
 
 #ifdef __cplusplus

@@ -4,7 +4,10 @@
 
 #include "collecting.h"
 
-enum { MESSAGE_LEAST = 4096, MESSAGE_MOST = 16777216, ENTRY_BYTES = 212 };
+enum { MESSAGE_LEAST = 4096, MESSAGE_MOST = 16777216 };
+
+/* A taken entry: its pictures, ticket, copies and UID. */
+enum { ENTRY_BYTES = BOXES_MOST * 4 + 2 + 2 + UID_MOST };
 
 struct gateway {
     bool started; /* records exist */

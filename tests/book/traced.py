@@ -5,7 +5,7 @@ from pathlib import Path
 TOP = Path(__file__).resolve().parents[2]
 CLAIM = TOP / "crates/rules/proofs/Traced.antt"
 KEPT = TOP / "crates/traces/data/book-run"
-NOTES = {"none": "noNote", "queued": "(filmsQueued {})", "picture": "(pictureAt {} {} {})"}
+NOTES = {"none": "NoNote", "queued": "(FilmsQueued {})", "picture": "(PictureAt {} {} {})"}
 
 
 def octets(word):

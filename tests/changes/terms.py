@@ -280,8 +280,8 @@ def declared_in_code(text):
         records[name] = [(str(i), typed(of.replace("pub ", ""))) for i, of in enumerate(body.split(","))]
     for name, body in re.findall(r"pub enum (\w+) \{\n(.*?)\n\}", text, re.S):
         rows = []
-        for one, of in re.findall(r"^\s*(\w+)(.*?),?$", body, re.M):
-            held = of.strip().strip("(){} ")
-            rows.append((one, [typed(part.split(":")[-1]) for part in held.split(",")] if held else []))
+        for one, of in re.findall(r"^ *(\w+) *(\([^)]*\)|\{[^}]*\}|),$", body, re.M):
+            held = [part.strip() for part in of.strip("(){}").split(",")]
+            rows.append((one, [typed(part.split(":")[-1]) for part in held if part]))
         data[name] = rows
     return records, data

@@ -10,43 +10,57 @@ static void put(uint8_t *records, size_t at, int width, uint64_t n)
         records[at + i] = (uint8_t)(n >> 8 * i);
 }
 
+static void fill_session(uint8_t *session)
+{
+    session[0] = 1;
+    put(session, 1, 4, 1);
+    uint8_t *values = session + 1 + GATEWAY_NAME_BYTES;
+    values[0] = 2;
+    values[1] = 1;
+    values[4] = 5;
+    memcpy(values + 5, "LABEL", 5);
+}
+
+static void fill_film(uint8_t *film, uint32_t i)
+{
+    put(film, GATEWAY_FILM_NAME, 4, 10 + 50 * i);
+    film[GATEWAY_FILM_LINES] = 6;
+    memset(film + GATEWAY_FILM_COUNTS, 6, GATEWAY_LINES);
+    uint8_t *values = film + GATEWAY_FILM_COUNTS + GATEWAY_LINES;
+    values[1] = 2;
+    put(values, 2, 4, 11 + 50 * i);
+    for (uint32_t j = 0; j < GATEWAY_BOXES; j++) {
+        uint8_t *box = film + GATEWAY_FILM_BOXES + GATEWAY_BOX_BYTES * j;
+        box[0] = (uint8_t)(j + 1);
+        put(box, GATEWAY_BOX_PICTURE, GATEWAY_PICTURE_BYTES, GATEWAY_BOXES * i + j + 1);
+    }
+}
+
+static void fill_entry(uint8_t *entry, uint32_t i)
+{
+    for (uint32_t p = 0; p < GATEWAY_BOXES; p++)
+        put(entry, GATEWAY_PICTURE_BYTES * p, GATEWAY_PICTURE_BYTES, p + 1);
+    put(entry, GATEWAY_QUEUED_TICKET, 2, i);
+    entry[GATEWAY_QUEUED_TICKET + 2] = 1;
+    entry[GATEWAY_QUEUED_NAME + 4] = 9;
+    memcpy(entry + GATEWAY_QUEUED_NAME + 5, "1.9.70.15", 9);
+}
+
 void fill_records(uint8_t *records)
 {
     memset(records, 0, GATEWAY_RECORDS);
     records[0] = 5;
     memcpy(records + 1, "1.9.7", 5);
-    put(records, 41, 5, 10000);
-    put(records, 46, 5, 1000);
-    put(records, 51, 2, 16);
-    records[53] = 1;
-    put(records, 54, 4, 1);
-    records[123] = 2;
-    records[124] = 1;
-    records[127] = 5;
-    memcpy(records + 128, "LABEL", 5);
-    records[192] = 8;
-    for (uint32_t i = 0; i < 8; i++) {
-        size_t film = 193 + 299 * i;
-        put(records, film, 4, 10 + 50 * i);
-        records[film + 70] = 6;
-        memset(records + film + 71, 6, 6);
-        records[film + 78] = 2;
-        put(records, film + 79, 4, 11 + 50 * i);
-        for (uint32_t j = 0; j < 36; j++) {
-            records[film + 83 + 6 * j] = (uint8_t)(j + 1);
-            put(records, film + 85 + 6 * j, 4, 36 * i + j + 1);
-        }
-    }
-    records[2585] = 16;
-    for (uint32_t i = 0; i < 16; i++) {
-        size_t entry = 2586 + 216 * i;
-        for (uint32_t p = 0; p < 36; p++)
-            put(records, entry + 4 * p, 4, p + 1);
-        put(records, entry + 144, 2, i);
-        records[entry + 146] = 1;
-        records[entry + 151] = 9;
-        memcpy(records + entry + 152, "1.9.70.15", 9);
-    }
-    records[6042] = records[6043] = records[6044] = 1;
-    put(records, 6045, 4, GATEWAY_MESSAGE_LEAST);
+    put(records, GATEWAY_AT_NEXT_SERIAL, GATEWAY_NEXT_BYTES, 10000);
+    put(records, GATEWAY_AT_NEXT_PICTURE, GATEWAY_NEXT_BYTES, 1000);
+    put(records, GATEWAY_AT_NEXT_PICTURE + GATEWAY_NEXT_BYTES, 2, 16);
+    fill_session(records + GATEWAY_AT_SESSION);
+    records[GATEWAY_AT_FILM_COUNT] = GATEWAY_FILMS;
+    for (uint32_t i = 0; i < GATEWAY_FILMS; i++)
+        fill_film(records + GATEWAY_AT_FILMS + GATEWAY_FILM_BYTES * i, i);
+    records[GATEWAY_AT_QUEUED_COUNT] = GATEWAY_QUEUED;
+    for (uint32_t i = 0; i < GATEWAY_QUEUED; i++)
+        fill_entry(records + GATEWAY_AT_QUEUED + GATEWAY_QUEUED_BYTES * i, i);
+    records[GATEWAY_AT_OPEN] = records[GATEWAY_AT_CONTEXT] = records[GATEWAY_AT_CONTEXT + 1] = 1;
+    put(records, GATEWAY_AT_ROOM, 4, GATEWAY_MESSAGE_LEAST);
 }

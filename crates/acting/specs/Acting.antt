@@ -8,9 +8,10 @@ use Rattle.choice.specs.Rules.{Rule, _⇒_}
 use Rattle.rules.specs.declared.Name.{Name}
 use Rattle.rules.specs.declared.Core.{Core}
 use Rattle.rules.specs.declared.Action.{Action}
+use Rattle.rules.specs.declared.Note.the-variants.{FilmsQueued}
+use Rattle.rules.specs.declared.Contents.the-variants.{Nothing}
+use Rattle.rules.specs.declared.Verdict.{Verdict}
 use Rattle.rules.specs.Checks.{targetRules}
-use Rattle.verdicts.specs.declared.Verdict.{Verdict}
-use Rattle.verdicts.specs.Verdicts.{noNewBoxes}
 
 -- check 7: Print, type 1, is the one action
 abbrev pub otherAction : Action → List Rule
@@ -25,6 +26,6 @@ queuing after name status films = record {
   status = status;
   core = after;
   instance = name;
-  notice = record { kind = 1; first = films; second = 0; third = 0 };
-  boxes = noNewBoxes;
+  note = FilmsQueued films;
+  contents = Nothing;
 }

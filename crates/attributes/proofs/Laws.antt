@@ -17,9 +17,9 @@ use Rattle.headers.specs.declared.Part.{Part}
 use Rattle.elements.specs.declared.Found.{Found}
 use Rattle.elements.specs.declared.Found.the-variants.{Missing, Value, Sequence}
 use Rattle.rules.specs.Lists.{any, every, filledTo}
-use Rattle.rules.specs.Values.{blank, trimmed, withoutLeading, withoutTrailing, labelByte, labelAllowed}
+use Rattle.rules.specs.Values.{blank, trimmed, withoutLeading, withoutTrailing, codeIn, labelByte, labelAllowed}
 use Rattle.rules.specs.Commands.{placed, bytesOf}
-use Rattle.rules.specs.Attributes.{Listing, Standing, missing, empty, wrong, fine, is, look, valueOf, mandatory, optional, given, orKept, attributeRules, sessionStandings, mustBeAbsent}
+use Rattle.rules.specs.Attributes.{Listing, Standing, missing, empty, wrong, fine, is, look, valueOf, mandatory, optional, given, orKept, codeAllowed, code, attributeRules, sessionStandings, mustBeAbsent}
 use Rattle.standings.specs.Severity.{kindOf, severity, severityBy, optionalBy, givenBy, worse, rank, worst, statusOf}
 use Rattle.standings.proofs.Laws.{valueAt, mandatory-severity, optional-severity, given-by, worst-cons, worst-status}
 
@@ -38,6 +38,12 @@ module _ (isEmpty allowed : List ℕ → Bool) (l : Listing) (f : Found) {kind n
 pub given-told : (isEmpty : List ℕ → Bool) (l : Listing) (f : Found) {kind : ℕ} {p : Part} {v : List ℕ} {e g : Bool}
     → kind ≡ kindOf f → p ≡ placed f → v ≡ bytesOf (l .bytes) p → e ≡ isEmpty v → g ≡ givenBy kind e → g ≡ given isEmpty l f
 given-told isEmpty l f k q w x z = z ∙ (rw (k, x, w, q) (sym (given-by isEmpty l f)))
+
+-- What is told of a code: which of the texts it is.
+pub code-told : (texts : List (List ℕ)) (l : Listing) (tag : ℕ) {kind place n : ℕ} {p : Part} {v : List ℕ} {e : Bool}
+    → kind ≡ kindOf (look l tag) → p ≡ placed (look l tag) → v ≡ bytesOf (l .bytes) p → e ≡ blank v → place ≡ codeIn texts v
+    → n ≡ optionalBy kind e (ltb place (length texts)) → n ≡ severity (optional (code texts l tag))
+code-told texts l tag k q w x y z = optional-told blank (codeAllowed texts) l (look l tag) k q w x (ap (λ i. ltb i (length texts)) y) z
 
 -- What an attribute gives, and what is kept where it is absent.
 

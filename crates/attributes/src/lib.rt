@@ -2,6 +2,8 @@
 use elements::Found;
 use elements::Items;
 use headers::Inside;
+use headers::Scope;
+use headers::Syntax;
 use rules::Core;
 use rules::Film;
 use rules::Layout;
@@ -17,13 +19,14 @@ ghost use Rattle.choice.specs.Rules.{firstBroken};
 ghost use Rattle.octets.specs.Octets.{same};
 ghost use Rattle.uids.specs.Uids.{isUid};
 ghost use Rattle.elements.specs.declared.Items.the-variants.{One};
+ghost use Rattle.elements.specs.Reader.{scopeOf};
 ghost use Rattle.elements.specs.Find.{itemsAt};
 ghost use Rattle.rules.specs.Text.{sessionClass};
 ghost use Rattle.rules.specs.Lists.{filledTo};
 ghost use Rattle.rules.specs.Values.{trimmed, blank, countIn, labelAllowed, codeIn, priorities, media, destinations, orientations, magnifications, countsIn};
 ghost use Rattle.rules.specs.Records.{uidOf, isLive};
 ghost use Rattle.rules.specs.Commands.{placed};
-ghost use Rattle.rules.specs.Attributes.{listingOf, look, valueOf, mandatory, optional, given, orKept, code, uid, onlyItem, attributeRules, sessionStandings, sessionWith, mustBeAbsent, referenceStandings, reference, optionalFilm, filmCreateStandings, filmSetStandings, filmWith, layoutIn};
+ghost use Rattle.rules.specs.Attributes.{listing, listingOf, look, valueOf, mandatory, optional, given, orKept, code, uid, attributeRules, sessionStandings, sessionWith, mustBeAbsent, referenceStandings, reference, optionalFilm, filmCreateStandings, filmSetStandings, filmWith, layoutIn};
 ghost use Rattle.standings.specs.Severity.{kindOf, severity, worst};
 
 const COPIES: usize = 0x2000_0010;
@@ -49,194 +52,189 @@ const REFERENCED_CLASS: usize = 0x0008_1150;
 const REFERENCED_INSTANCE: usize = 0x0008_1155;
 
 // What the data set itself holds under a tag.
-fn look(d: &[u8], explicit: bool, tag: usize) -> Attribute
-    ensures { λ r. ⌜ (r .kind ≡ kindOf (look (listingOf (now (d .entry)) explicit) tag)) × (r .value ≡ placed (look (listingOf (now (d .entry)) explicit) tag)) × (r .value .from ≤ r .value .stop) × (r .value .stop ≤ length (now (d .entry))) ⌝ }
+fn look(d: &[u8], syntax: Syntax, tag: usize) -> Attribute
+    ensures { λ r. ⌜ (r .kind ≡ kindOf (look (listingOf (now (d .entry)) syntax) tag)) × (r .value ≡ placed (look (listingOf (now (d .entry)) syntax) tag)) × (r .value .from ≤ r .value .stop) × (r .value .stop ≤ length (now (d .entry))) ⌝ }
 {
-    let whole = Inside {
-        from: 0,
-        stop: d.len(),
-        loose: false,
-    };
-    standings::look(d, explicit, 4, whole, tag)
+    standings::look(d, elements::data_scope(d, syntax), tag)
 }
 
 // Its bytes, none where there is no value.
-fn value_of(d: &[u8], explicit: bool, tag: usize) -> &[u8]
-    ensures { λ r. ⌜ now r ≡ valueOf (listingOf (now (d .entry)) explicit) tag ⌝ }
+fn value_of(d: &[u8], syntax: Syntax, tag: usize) -> &[u8]
+    ensures { λ r. ⌜ now r ≡ valueOf (listingOf (now (d .entry)) syntax) tag ⌝ }
 {
-    let at = look(d, explicit, tag);
+    let at = look(d, syntax, tag);
     standings::value(d, at.value)
 }
 
 // Whether it is there, with a text that is not blank.
-fn is_given(d: &[u8], explicit: bool, tag: usize) -> bool
-    ensures { λ r. ⌜ r ≡ given blank (listingOf (now (d .entry)) explicit) (look (listingOf (now (d .entry)) explicit) tag) ⌝ }
+fn is_given(d: &[u8], syntax: Syntax, tag: usize) -> bool
+    ensures { λ r. ⌜ r ≡ given blank (listingOf (now (d .entry)) syntax) (look (listingOf (now (d .entry)) syntax) tag) ⌝ }
 {
-    let at = look(d, explicit, tag);
+    let at = look(d, syntax, tag);
     let v = standings::value(d, at.value);
     standings::is_given(at.kind, texts::is_blank(v))
 }
 
-fn copies_severity(d: &[u8], explicit: bool) -> u8
-    ensures { λ r. ⌜ r ≡ severity (optional (mandatory blank (λ v. not (eqb (countIn 99 v) 0)) (listingOf (now (d .entry)) explicit) (look (listingOf (now (d .entry)) explicit) 0x2000_0010))) ⌝ }
+fn copies_severity(d: &[u8], syntax: Syntax) -> u8
+    ensures { λ r. ⌜ r ≡ severity (optional (mandatory blank (λ v. not (eqb (countIn 99 v) 0)) (listingOf (now (d .entry)) syntax) (look (listingOf (now (d .entry)) syntax) 0x2000_0010))) ⌝ }
 {
-    let at = look(d, explicit, COPIES);
+    let at = look(d, syntax, COPIES);
     let v = standings::value(d, at.value);
     standings::optional_severity(at.kind, texts::is_blank(v), texts::count_in(v, 99) != 0)
 }
 
-fn priority_severity(d: &[u8], explicit: bool) -> u8
-    ensures { λ r. ⌜ r ≡ severity (optional (code priorities (listingOf (now (d .entry)) explicit) 0x2000_0020)) ⌝ }
+fn priority_severity(d: &[u8], syntax: Syntax) -> u8
+    ensures { λ r. ⌜ r ≡ severity (optional (code priorities (listingOf (now (d .entry)) syntax) 0x2000_0020)) ⌝ }
 {
-    let at = look(d, explicit, PRIORITY);
+    let at = look(d, syntax, PRIORITY);
     let v = standings::value(d, at.value);
     standings::optional_severity(at.kind, texts::is_blank(v), values::priority_in(v) < 3)
 }
 
-fn medium_severity(d: &[u8], explicit: bool) -> u8
-    ensures { λ r. ⌜ r ≡ severity (optional (code media (listingOf (now (d .entry)) explicit) 0x2000_0030)) ⌝ }
+fn medium_severity(d: &[u8], syntax: Syntax) -> u8
+    ensures { λ r. ⌜ r ≡ severity (optional (code media (listingOf (now (d .entry)) syntax) 0x2000_0030)) ⌝ }
 {
-    let at = look(d, explicit, MEDIUM);
+    let at = look(d, syntax, MEDIUM);
     let v = standings::value(d, at.value);
     standings::optional_severity(at.kind, texts::is_blank(v), values::medium_in(v) < 3)
 }
 
-fn destination_severity(d: &[u8], explicit: bool) -> u8
-    ensures { λ r. ⌜ r ≡ severity (optional (code destinations (listingOf (now (d .entry)) explicit) 0x2000_0040)) ⌝ }
+fn destination_severity(d: &[u8], syntax: Syntax) -> u8
+    ensures { λ r. ⌜ r ≡ severity (optional (code destinations (listingOf (now (d .entry)) syntax) 0x2000_0040)) ⌝ }
 {
-    let at = look(d, explicit, DESTINATION);
+    let at = look(d, syntax, DESTINATION);
     let v = standings::value(d, at.value);
     standings::optional_severity(at.kind, texts::is_blank(v), values::destination_in(v) < 2)
 }
 
-fn label_severity(d: &[u8], explicit: bool) -> u8
-    ensures { λ r. ⌜ r ≡ severity (optional (mandatory blank labelAllowed (listingOf (now (d .entry)) explicit) (look (listingOf (now (d .entry)) explicit) 0x2000_0050))) ⌝ }
+fn label_severity(d: &[u8], syntax: Syntax) -> u8
+    ensures { λ r. ⌜ r ≡ severity (optional (mandatory blank labelAllowed (listingOf (now (d .entry)) syntax) (look (listingOf (now (d .entry)) syntax) 0x2000_0050))) ⌝ }
 {
-    let at = look(d, explicit, LABEL);
+    let at = look(d, syntax, LABEL);
     let v = standings::value(d, at.value);
     standings::optional_severity(at.kind, texts::is_blank(v), texts::label_allowed(v))
 }
 
 // Check 8 of a session.
-pub fn session_broken(d: &[u8], explicit: bool) -> u16
-    ensures { λ r. ⌜ r ≡ firstBroken (attributeRules (sessionStandings (listingOf (now (d .entry)) explicit))) ⌝ }
+pub fn session_broken(d: &[u8], syntax: Syntax) -> u16
+    ensures { λ r. ⌜ r ≡ firstBroken (attributeRules (sessionStandings (listingOf (now (d .entry)) syntax))) ⌝ }
 {
-    let mut worst = label_severity(d, explicit);
-    worst = standings::worse(destination_severity(d, explicit), worst);
-    worst = standings::worse(medium_severity(d, explicit), worst);
-    worst = standings::worse(priority_severity(d, explicit), worst);
-    worst = standings::worse(copies_severity(d, explicit), worst);
+    let mut worst = label_severity(d, syntax);
+    worst = standings::worse(destination_severity(d, syntax), worst);
+    worst = standings::worse(medium_severity(d, syntax), worst);
+    worst = standings::worse(priority_severity(d, syntax), worst);
+    worst = standings::worse(copies_severity(d, syntax), worst);
     standings::status_of(worst)
 }
 
 // What the data set gives, or what is kept where it gives nothing.
-fn copies_or(d: &[u8], explicit: bool, kept: u8) -> u8
-    ensures { λ r. ⌜ r ≡ orKept blank (listingOf (now (d .entry)) explicit) 0x2000_0010 (countIn 99) kept ⌝ }
+fn copies_or(d: &[u8], syntax: Syntax, kept: u8) -> u8
+    ensures { λ r. ⌜ r ≡ orKept blank (listingOf (now (d .entry)) syntax) 0x2000_0010 (countIn 99) kept ⌝ }
 {
-    if is_given(d, explicit, COPIES) {
-        return texts::count_in(value_of(d, explicit, COPIES), 99) as u8;
+    if is_given(d, syntax, COPIES) {
+        return texts::count_in(value_of(d, syntax, COPIES), 99) as u8;
     }
     kept
 }
 
-fn priority_or(d: &[u8], explicit: bool, kept: u8) -> u8
-    ensures { λ r. ⌜ r ≡ orKept blank (listingOf (now (d .entry)) explicit) 0x2000_0020 (codeIn priorities) kept ⌝ }
+fn priority_or(d: &[u8], syntax: Syntax, kept: u8) -> u8
+    ensures { λ r. ⌜ r ≡ orKept blank (listingOf (now (d .entry)) syntax) 0x2000_0020 (codeIn priorities) kept ⌝ }
 {
-    if is_given(d, explicit, PRIORITY) {
-        return values::priority_in(value_of(d, explicit, PRIORITY)) as u8;
+    if is_given(d, syntax, PRIORITY) {
+        return values::priority_in(value_of(d, syntax, PRIORITY)) as u8;
     }
     kept
 }
 
-fn medium_or(d: &[u8], explicit: bool, kept: u8) -> u8
-    ensures { λ r. ⌜ r ≡ orKept blank (listingOf (now (d .entry)) explicit) 0x2000_0030 (codeIn media) kept ⌝ }
+fn medium_or(d: &[u8], syntax: Syntax, kept: u8) -> u8
+    ensures { λ r. ⌜ r ≡ orKept blank (listingOf (now (d .entry)) syntax) 0x2000_0030 (codeIn media) kept ⌝ }
 {
-    if is_given(d, explicit, MEDIUM) {
-        return values::medium_in(value_of(d, explicit, MEDIUM)) as u8;
+    if is_given(d, syntax, MEDIUM) {
+        return values::medium_in(value_of(d, syntax, MEDIUM)) as u8;
     }
     kept
 }
 
-fn destination_or(d: &[u8], explicit: bool, kept: u8) -> u8
-    ensures { λ r. ⌜ r ≡ orKept blank (listingOf (now (d .entry)) explicit) 0x2000_0040 (codeIn destinations) kept ⌝ }
+fn destination_or(d: &[u8], syntax: Syntax, kept: u8) -> u8
+    ensures { λ r. ⌜ r ≡ orKept blank (listingOf (now (d .entry)) syntax) 0x2000_0040 (codeIn destinations) kept ⌝ }
 {
-    if is_given(d, explicit, DESTINATION) {
-        return values::destination_in(value_of(d, explicit, DESTINATION)) as u8;
+    if is_given(d, syntax, DESTINATION) {
+        return values::destination_in(value_of(d, syntax, DESTINATION)) as u8;
     }
     kept
 }
 
-fn label_length_or(d: &[u8], explicit: bool, kept: u8) -> u8
-    requires { ⌜ length (trimmed (valueOf (listingOf (now d) explicit) 0x2000_0050)) ≤ 64 ⌝ }
-    ensures { λ r. ⌜ r ≡ orKept blank (listingOf (now (d .entry)) explicit) 0x2000_0050 (λ v. length (trimmed v)) kept ⌝ }
+fn label_length_or(d: &[u8], syntax: Syntax, kept: u8) -> u8
+    requires { ⌜ length (trimmed (valueOf (listingOf (now d) syntax) 0x2000_0050)) ≤ 64 ⌝ }
+    ensures { λ r. ⌜ r ≡ orKept blank (listingOf (now (d .entry)) syntax) 0x2000_0050 (λ v. length (trimmed v)) kept ⌝ }
 {
-    if is_given(d, explicit, LABEL) {
-        return texts::trimmed(value_of(d, explicit, LABEL)).len() as u8;
+    if is_given(d, syntax, LABEL) {
+        return texts::trimmed(value_of(d, syntax, LABEL)).len() as u8;
     }
     kept
 }
 
-fn label_or(d: &[u8], explicit: bool, kept: [u8; 64]) -> [u8; 64]
-    requires { ⌜ length (trimmed (valueOf (listingOf (now d) explicit) 0x2000_0050)) ≤ 64 ⌝ }
-    ensures { λ r. ⌜ r ≡ orKept blank (listingOf (now (d .entry)) explicit) 0x2000_0050 (λ v. filledTo 64 0 (trimmed v)) kept ⌝ }
+fn label_or(d: &[u8], syntax: Syntax, kept: [u8; 64]) -> [u8; 64]
+    requires { ⌜ length (trimmed (valueOf (listingOf (now d) syntax) 0x2000_0050)) ≤ 64 ⌝ }
+    ensures { λ r. ⌜ r ≡ orKept blank (listingOf (now (d .entry)) syntax) 0x2000_0050 (λ v. filledTo 64 0 (trimmed v)) kept ⌝ }
 {
-    if is_given(d, explicit, LABEL) {
+    if is_given(d, syntax, LABEL) {
         let mut label = [0; 64];
-        octets::put(&mut label, 0, texts::trimmed(value_of(d, explicit, LABEL)));
+        octets::put(&mut label, 0, texts::trimmed(value_of(d, syntax, LABEL)));
         return label;
     }
     kept
 }
 
 // A session with what the data set gives.
-pub fn session_with(d: &[u8], explicit: bool, s: Session) -> Session
-    requires { ⌜ firstBroken (attributeRules (sessionStandings (listingOf (now d) explicit))) ≡ 0 ⌝ }
-    ensures { λ r. ⌜ r ≡ sessionWith (listingOf (now (d .entry)) explicit) s ⌝ }
+pub fn session_with(d: &[u8], syntax: Syntax, s: Session) -> Session
+    requires { ⌜ firstBroken (attributeRules (sessionStandings (listingOf (now d) syntax))) ≡ 0 ⌝ }
+    ensures { λ r. ⌜ r ≡ sessionWith (listingOf (now (d .entry)) syntax) s ⌝ }
 {
     let name = s.name;
     let label = s.label;
     Session {
         live: s.live,
         name,
-        copies: copies_or(d, explicit, s.copies),
-        priority: priority_or(d, explicit, s.priority),
-        medium: medium_or(d, explicit, s.medium),
-        destination: destination_or(d, explicit, s.destination),
-        used: label_length_or(d, explicit, s.used),
-        label: label_or(d, explicit, label),
+        copies: copies_or(d, syntax, s.copies),
+        priority: priority_or(d, syntax, s.priority),
+        medium: medium_or(d, syntax, s.medium),
+        destination: destination_or(d, syntax, s.destination),
+        used: label_length_or(d, syntax, s.used),
+        label: label_or(d, syntax, label),
     }
 }
 
-fn orientation_severity(d: &[u8], explicit: bool) -> u8
-    ensures { λ r. ⌜ r ≡ severity (optional (code orientations (listingOf (now (d .entry)) explicit) 0x2010_0040)) ⌝ }
+fn orientation_severity(d: &[u8], syntax: Syntax) -> u8
+    ensures { λ r. ⌜ r ≡ severity (optional (code orientations (listingOf (now (d .entry)) syntax) 0x2010_0040)) ⌝ }
 {
-    let at = look(d, explicit, ORIENTATION);
+    let at = look(d, syntax, ORIENTATION);
     let v = standings::value(d, at.value);
     standings::optional_severity(at.kind, texts::is_blank(v), values::orientation_in(v) < 2)
 }
 
-fn magnification_severity(d: &[u8], explicit: bool) -> u8
-    ensures { λ r. ⌜ r ≡ severity (optional (code magnifications (listingOf (now (d .entry)) explicit) 0x2010_0060)) ⌝ }
+fn magnification_severity(d: &[u8], syntax: Syntax) -> u8
+    ensures { λ r. ⌜ r ≡ severity (optional (code magnifications (listingOf (now (d .entry)) syntax) 0x2010_0060)) ⌝ }
 {
-    let at = look(d, explicit, MAGNIFICATION);
+    let at = look(d, syntax, MAGNIFICATION);
     let v = standings::value(d, at.value);
     standings::optional_severity(at.kind, texts::is_blank(v), values::magnification_in(v) < 4)
 }
 
-fn optional_film(d: &[u8], explicit: bool) -> u8
-    ensures { λ r. ⌜ r ≡ worst (optionalFilm (listingOf (now (d .entry)) explicit)) ⌝ }
+fn optional_film(d: &[u8], syntax: Syntax) -> u8
+    ensures { λ r. ⌜ r ≡ worst (optionalFilm (listingOf (now (d .entry)) syntax)) ⌝ }
 {
     standings::worse(
-        orientation_severity(d, explicit),
-        magnification_severity(d, explicit),
+        orientation_severity(d, syntax),
+        magnification_severity(d, syntax),
     )
 }
 
 // "even empty"
-fn presence_severity(d: &[u8], explicit: bool, tag: usize) -> u8
-    ensures { λ r. ⌜ r ≡ severity (mustBeAbsent (look (listingOf (now (d .entry)) explicit) tag)) ⌝ }
+fn presence_severity(d: &[u8], syntax: Syntax, tag: usize) -> u8
+    ensures { λ r. ⌜ r ≡ severity (mustBeAbsent (look (listingOf (now (d .entry)) syntax) tag)) ⌝ }
 {
-    let at = look(d, explicit, tag);
+    let at = look(d, syntax, tag);
     if at.kind == 0 {
         return 0;
     }
@@ -244,36 +242,36 @@ fn presence_severity(d: &[u8], explicit: bool, tag: usize) -> u8
 }
 
 // Check 8 of a film on set.
-pub fn film_set_broken(d: &[u8], explicit: bool) -> u16
-    ensures { λ r. ⌜ r ≡ firstBroken (attributeRules (filmSetStandings (listingOf (now (d .entry)) explicit))) ⌝ }
+pub fn film_set_broken(d: &[u8], syntax: Syntax) -> u16
+    ensures { λ r. ⌜ r ≡ firstBroken (attributeRules (filmSetStandings (listingOf (now (d .entry)) syntax))) ⌝ }
 {
-    let mut worst = optional_film(d, explicit);
-    worst = standings::worse(presence_severity(d, explicit, REFERENCE), worst);
-    worst = standings::worse(presence_severity(d, explicit, FORMAT), worst);
+    let mut worst = optional_film(d, syntax);
+    worst = standings::worse(presence_severity(d, syntax, REFERENCE), worst);
+    worst = standings::worse(presence_severity(d, syntax, FORMAT), worst);
     standings::status_of(worst)
 }
 
-fn orientation_or(d: &[u8], explicit: bool, kept: u8) -> u8
-    ensures { λ r. ⌜ r ≡ orKept blank (listingOf (now (d .entry)) explicit) 0x2010_0040 (codeIn orientations) kept ⌝ }
+fn orientation_or(d: &[u8], syntax: Syntax, kept: u8) -> u8
+    ensures { λ r. ⌜ r ≡ orKept blank (listingOf (now (d .entry)) syntax) 0x2010_0040 (codeIn orientations) kept ⌝ }
 {
-    if is_given(d, explicit, ORIENTATION) {
-        return values::orientation_in(value_of(d, explicit, ORIENTATION)) as u8;
+    if is_given(d, syntax, ORIENTATION) {
+        return values::orientation_in(value_of(d, syntax, ORIENTATION)) as u8;
     }
     kept
 }
 
-fn magnification_or(d: &[u8], explicit: bool, kept: u8) -> u8
-    ensures { λ r. ⌜ r ≡ orKept blank (listingOf (now (d .entry)) explicit) 0x2010_0060 (codeIn magnifications) kept ⌝ }
+fn magnification_or(d: &[u8], syntax: Syntax, kept: u8) -> u8
+    ensures { λ r. ⌜ r ≡ orKept blank (listingOf (now (d .entry)) syntax) 0x2010_0060 (codeIn magnifications) kept ⌝ }
 {
-    if is_given(d, explicit, MAGNIFICATION) {
-        return values::magnification_in(value_of(d, explicit, MAGNIFICATION)) as u8;
+    if is_given(d, syntax, MAGNIFICATION) {
+        return values::magnification_in(value_of(d, syntax, MAGNIFICATION)) as u8;
     }
     kept
 }
 
 // A film with what the data set gives.
-pub fn film_with(d: &[u8], explicit: bool, f: Film) -> Film
-    ensures { λ r. ⌜ r ≡ filmWith (listingOf (now (d .entry)) explicit) f ⌝ }
+pub fn film_with(d: &[u8], syntax: Syntax, f: Film) -> Film
+    ensures { λ r. ⌜ r ≡ filmWith (listingOf (now (d .entry)) syntax) f ⌝ }
 {
     let name = f.name;
     let layout = f.layout;
@@ -282,24 +280,24 @@ pub fn film_with(d: &[u8], explicit: bool, f: Film) -> Film
     Film {
         name,
         layout,
-        orientation: orientation_or(d, explicit, f.orientation),
-        magnification: magnification_or(d, explicit, f.magnification),
+        orientation: orientation_or(d, syntax, f.orientation),
+        magnification: magnification_or(d, syntax, f.magnification),
         first,
         boxes,
     }
 }
 
 // The layout that Format gives.
-pub fn layout_in(d: &[u8], explicit: bool) -> Layout
-    ensures { λ r. ⌜ r ≡ layoutIn (listingOf (now (d .entry)) explicit) ⌝ }
+pub fn layout_in(d: &[u8], syntax: Syntax) -> Layout
+    ensures { λ r. ⌜ r ≡ layoutIn (listingOf (now (d .entry)) syntax) ⌝ }
 {
-    layouts::layout_in(value_of(d, explicit, FORMAT))
+    layouts::layout_in(value_of(d, syntax, FORMAT))
 }
 
-fn format_severity(d: &[u8], explicit: bool) -> u8
-    ensures { λ r. ⌜ r ≡ severity (mandatory blank (λ v. not (eqb (length (countsIn v)) 0)) (listingOf (now (d .entry)) explicit) (look (listingOf (now (d .entry)) explicit) 0x2010_0010)) ⌝ }
+fn format_severity(d: &[u8], syntax: Syntax) -> u8
+    ensures { λ r. ⌜ r ≡ severity (mandatory blank (λ v. not (eqb (length (countsIn v)) 0)) (listingOf (now (d .entry)) syntax) (look (listingOf (now (d .entry)) syntax) 0x2010_0010)) ⌝ }
 {
-    let at = look(d, explicit, FORMAT);
+    let at = look(d, syntax, FORMAT);
     let v = standings::value(d, at.value);
     let layout = layouts::layout_in(v);
     standings::severity(at.kind, texts::is_blank(v), layout.lines != 0)
@@ -325,70 +323,75 @@ fn is_session(n: Numbers, s: Session, u: &[u8]) -> bool
         return false;
     }
     let name = s.name;
-    naming::is_named(n, name, u)
+    instances::is_named(n, name, u)
 }
 
-fn class_severity(d: &[u8], explicit: bool, inside: Inside) -> u8
-    requires { ⌜ (inside .from ≤ inside .stop) × (inside .stop ≤ length (now d)) ⌝ }
-    ensures { λ r. ⌜ r ≡ severity (uid (same sessionClass) (onlyItem (listingOf (now (d .entry)) explicit) inside) 0x0008_1150) ⌝ }
+fn class_severity(d: &[u8], scope: Scope) -> u8
+    requires { ⌜ (scope .inside .from ≤ scope .inside .stop) × (scope .inside .stop ≤ length (now d)) ⌝ }
+    ensures { λ r. ⌜ r ≡ severity (uid (same sessionClass) (listing (now (d .entry)) scope) 0x0008_1150) ⌝ }
 {
-    let at = standings::look(d, explicit, 3, inside, REFERENCED_CLASS);
+    let at = standings::look(d, scope, REFERENCED_CLASS);
     let v = standings::value(d, at.value);
-    standings::severity(at.kind, v.len() == 0, is_session_class(naming::unpadded(v)))
+    standings::severity(at.kind, v.len() == 0, is_session_class(uids::unpadded(v)))
 }
 
-fn instance_severity(n: Numbers, s: Session, d: &[u8], explicit: bool, inside: Inside) -> u8
-    requires { ⌜ (inside .from ≤ inside .stop) × (inside .stop ≤ length (now d)) ⌝ }
-    ensures { λ r. ⌜ r ≡ severity (uid (λ u. both (isLive s) (same u (uidOf n (s .name)))) (onlyItem (listingOf (now (d .entry)) explicit) inside) 0x0008_1155) ⌝ }
+fn instance_severity(n: Numbers, s: Session, d: &[u8], scope: Scope) -> u8
+    requires { ⌜ (scope .inside .from ≤ scope .inside .stop) × (scope .inside .stop ≤ length (now d)) ⌝ }
+    ensures { λ r. ⌜ r ≡ severity (uid (λ u. both (isLive s) (same u (uidOf n (s .name)))) (listing (now (d .entry)) scope) 0x0008_1155) ⌝ }
 {
-    let at = standings::look(d, explicit, 3, inside, REFERENCED_INSTANCE);
+    let at = standings::look(d, scope, REFERENCED_INSTANCE);
     let v = standings::value(d, at.value);
-    standings::severity(at.kind, v.len() == 0, is_session(n, s, naming::unpadded(v)))
+    standings::severity(at.kind, v.len() == 0, is_session(n, s, uids::unpadded(v)))
 }
 
 // The only item of the reference.
-fn item_severity(k: Core, d: &[u8], explicit: bool, inside: Inside) -> u8
+fn item_severity(k: Core, d: &[u8], syntax: Syntax, inside: Inside) -> u8
     requires { ⌜ (inside .from ≤ inside .stop) × (inside .stop ≤ length (now d)) ⌝ }
-    ensures { λ r. ⌜ r ≡ worst (referenceStandings k (listingOf (now (d .entry)) explicit) (One inside)) ⌝ }
+    ensures { λ r. ⌜ r ≡ worst (referenceStandings k (listingOf (now (d .entry)) syntax) (One inside)) ⌝ }
 {
     let numbers = k.numbers;
     let session = k.session;
-    let instance = instance_severity(numbers, session, d, explicit, inside);
-    standings::worse(class_severity(d, explicit, inside), instance)
+    let item = Scope {
+        syntax,
+        room: 3,
+        inside,
+    };
+    let instance = instance_severity(numbers, session, d, item);
+    standings::worse(class_severity(d, item), instance)
 }
 
-fn sequence_severity(k: Core, d: &[u8], explicit: bool, inside: Inside) -> u8
+fn sequence_severity(k: Core, d: &[u8], syntax: Syntax, inside: Inside) -> u8
     requires { ⌜ (inside .from ≤ inside .stop) × (inside .stop ≤ length (now d)) ⌝ }
-    ensures { λ r. ⌜ r ≡ worst (referenceStandings k (listingOf (now (d .entry)) explicit) (itemsAt (now (d .entry)) explicit 3 inside)) ⌝ }
+    ensures { λ r. ⌜ r ≡ worst (referenceStandings k (listingOf (now (d .entry)) syntax) (itemsAt (now (d .entry)) (scopeOf syntax 3 inside))) ⌝ }
 {
-    match finding::items_in(d, explicit, 3, inside) {
+    let sequence = Scope {
+        syntax,
+        room: 3,
+        inside,
+    };
+    match finding::items_in(d, sequence) {
         Items::Empty => 2,
-        Items::One(item) => item_severity(k, d, explicit, item),
+        Items::One(item) => item_severity(k, d, syntax, item),
         Items::Several(_) => 1,
     }
 }
 
-fn reference_severity(k: Core, d: &[u8], explicit: bool) -> u8
-    ensures { λ r. ⌜ r ≡ worst (reference k (listingOf (now (d .entry)) explicit) (look (listingOf (now (d .entry)) explicit) 0x2010_0500)) ⌝ }
+fn reference_severity(k: Core, d: &[u8], syntax: Syntax) -> u8
+    ensures { λ r. ⌜ r ≡ worst (reference k (listingOf (now (d .entry)) syntax) (look (listingOf (now (d .entry)) syntax) 0x2010_0500)) ⌝ }
 {
-    let whole = Inside {
-        from: 0,
-        stop: d.len(),
-        loose: false,
-    };
-    match finding::find(d, explicit, 4, whole, REFERENCE) {
+    match finding::find(d, elements::data_scope(d, syntax), REFERENCE) {
         Found::Missing => 3,
         Found::Value(_) => 1,
-        Found::Sequence(inside) => sequence_severity(k, d, explicit, inside),
+        Found::Sequence(inside) => sequence_severity(k, d, syntax, inside),
     }
 }
 
 // Check 8 of a film on create.
-pub fn film_create_broken(k: Core, d: &[u8], explicit: bool) -> u16
-    ensures { λ r. ⌜ r ≡ firstBroken (attributeRules (filmCreateStandings k (listingOf (now (d .entry)) explicit))) ⌝ }
+pub fn film_create_broken(k: Core, d: &[u8], syntax: Syntax) -> u16
+    ensures { λ r. ⌜ r ≡ firstBroken (attributeRules (filmCreateStandings k (listingOf (now (d .entry)) syntax))) ⌝ }
 {
-    let mut worst = optional_film(d, explicit);
-    worst = standings::worse(reference_severity(k, d, explicit), worst);
-    worst = standings::worse(format_severity(d, explicit), worst);
+    let mut worst = optional_film(d, syntax);
+    worst = standings::worse(reference_severity(k, d, syntax), worst);
+    worst = standings::worse(format_severity(d, syntax), worst);
     standings::status_of(worst)
 }

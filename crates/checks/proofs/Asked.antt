@@ -7,16 +7,17 @@ use mathlib.Core.Bool.{Bool, true, false}
 use mathlib.Core.List.{List}
 use borrow.Author.Tests.{not-true, not-false}
 use Rattle.choice.specs.Rules.{firstBroken}
+use Rattle.headers.specs.declared.Syntax.{Syntax}
 use Rattle.headers.specs.declared.Part.{Part}
 use Rattle.rules.specs.declared.Core.{Core}
 use Rattle.rules.specs.declared.Operation.{Operation}
 use Rattle.rules.specs.declared.Operation.the-variants.{Echo, Create, Set, Act, Delete}
-use Rattle.rules.specs.Records.{explicitVR}
+use Rattle.rules.specs.Records.{syntaxIn}
 use Rattle.rules.specs.Commands.{uidAt}
-use Rattle.rules.specs.Checks.{Class, classOf, classPart, isUnknown, offers, isTooLong, isUnreadable, generalRules}
+use Rattle.rules.specs.declared.Class.{Class}
+use Rattle.rules.specs.Checks.{classOf, classPart, isUnknown, offers, isTooLong, isUnreadable, generalRules}
 use Rattle.commands.specs.Within.{PartIn, OperationIn}
-use Rattle.instances.specs.declared.Data.{Data}
-use Rattle.instances.specs.Meant.{dataMeant}
+use Rattle.strike.specs.declared.Came.{Came}
 
 pub class-in : (n : ℕ) (o : Operation) → OperationIn n o → PartIn n (classPart o)
 class-in n (Echo r) h = h
@@ -25,10 +26,10 @@ class-in n (Set r) h = h .0
 class-in n (Act r) h = h .0
 class-in n (Delete r) h = h .0
 
-module _ (k : Core) (c : List ℕ) (came : Data) (d : List ℕ) (o : Operation) (p : Part) (uid : List ℕ) (class : Class) (unknown : Bool)
+module _ (k : Core) (c : List ℕ) (came : Came) (d : List ℕ) (o : Operation) (p : Part) (uid : List ℕ) (class : Class) (unknown : Bool)
     (told-part : p ≡ classPart o) (told-uid : uid ≡ uidAt c p) (told-class : class ≡ classOf uid) (told-unknown : unknown ≡ isUnknown class) where
   abbrev Answers : ℕ → Type 0
-  Answers n = n ≡ firstBroken (generalRules k c (dataMeant came d) o)
+  Answers n = n ≡ firstBroken (generalRules k c (record { came = came; bytes = d }) o)
 
   asked : class ≡ classOf (uidAt c (classPart o))
   asked = told-class ∙ ap classOf (told-uid ∙ ap (uidAt c) told-part)
@@ -42,18 +43,18 @@ module _ (k : Core) (c : List ℕ) (came : Data) (d : List ℕ) (o : Operation) 
     unfolding generalRules
     not-offered e = rw (← asked, ← told-unknown, known, ← told-offered, not-true offered e)
 
-    module _ (is-offered : bool.not offered ≡ false) (long : Bool) (told-long : long ≡ isTooLong (dataMeant came d)) where
+    module _ (is-offered : bool.not offered ≡ false) (long : Bool) (told-long : long ≡ isTooLong came) where
       pub too-long : long ≡ true → Answers 0x0213
       unfolding generalRules
       too-long e = rw (← asked, ← told-unknown, known, ← told-offered, not-false offered is-offered, ← told-long, e)
 
-      module _ (short : long ≡ false) (wrong : Bool) (told-wrong : wrong ≡ isUnreadable (explicitVR k) (dataMeant came d)) where
+      module _ (short : long ≡ false) (syntax : Syntax) (told-syntax : syntax ≡ syntaxIn k) (wrong : Bool) (told-wrong : wrong ≡ isUnreadable syntax came d) where
         pub unreadable : wrong ≡ true → Answers 0x0110
         unfolding generalRules
-        unreadable e = rw (← asked, ← told-unknown, known, ← told-offered, not-false offered is-offered, ← told-long, short, ← told-wrong, e)
+        unreadable e = rw (← asked, ← told-unknown, known, ← told-offered, not-false offered is-offered, ← told-long, short, ← told-syntax, ← told-wrong, e)
 
         pub unbroken : wrong ≡ false → Answers 0
         unfolding generalRules
-        unbroken e = rw (← asked, ← told-unknown, known, ← told-offered, not-false offered is-offered, ← told-long, short, ← told-wrong, e)
+        unbroken e = rw (← asked, ← told-unknown, known, ← told-offered, not-false offered is-offered, ← told-long, short, ← told-syntax, ← told-wrong, e)
 
 pub ruleset asked-by = (class-unknown, not-offered, too-long, unreadable, unbroken)

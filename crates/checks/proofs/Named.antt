@@ -10,9 +10,11 @@ use Rattle.choice.specs.Rules.{firstBroken}
 use Rattle.uids.specs.Uids.{isUid, beginsWith}
 use Rattle.headers.specs.declared.Part.{Part}
 use Rattle.rules.specs.declared.Core.{Core}
-use Rattle.rules.specs.Records.{Instance, rootOf, named}
+use Rattle.rules.specs.declared.Instance.{Instance}
+use Rattle.rules.specs.Records.{rootOf, named}
 use Rattle.rules.specs.Commands.{size, uidAt}
-use Rattle.rules.specs.Checks.{Class, classOf, isNobody, ofClass, createRules, targetRules}
+use Rattle.rules.specs.declared.Class.{Class}
+use Rattle.rules.specs.Checks.{classOf, isNobody, ofClass, createRules, targetRules}
 
 module _ (k : Core) (c : List ℕ) (sent : Part) where
   abbrev AnswersSent : ℕ → Type 0

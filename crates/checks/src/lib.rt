@@ -1,27 +1,28 @@
 // Checks: checks 2 to 6 of a request.
 use headers::Part;
-use instances::Class;
-use instances::Data;
-use instances::Whom;
+use headers::Syntax;
+use rules::Class;
 use rules::Core;
+use rules::Instance;
 use rules::Operation;
+use strike::Came;
 ghost use mathlib.Core.Path.{_≡_};
 ghost use mathlib.Core.Bool.{true};
 ghost use lib.ListN.{length};
 ghost use Rattle.choice.specs.Rules.{firstBroken};
-ghost use Rattle.rules.specs.Checks.{sessions, films, boxes, isUnknown, isTooLong, isUnreadable, isNobody, ofClass, generalRules, createRules, targetRules};
+ghost use Rattle.rules.specs.declared.Class.the-variants.{Sessions, Films, Boxes};
+ghost use Rattle.rules.specs.Checks.{isUnknown, isTooLong, isUnreadable, isNobody, ofClass, generalRules, createRules, targetRules};
 ghost use Rattle.rules.specs.Sound.{coreSound};
 ghost use Rattle.commands.specs.Within.{PartIn, OperationIn};
-ghost use Rattle.instances.specs.Meant.{classMeant, instanceMeant, dataMeant};
 
-fn is_nobody(whom: Whom) -> bool
-    ensures { λ r. ⌜ r ≡ isNobody (instanceMeant whom) ⌝ }
+fn is_nobody(whom: Instance) -> bool
+    ensures { λ r. ⌜ r ≡ isNobody whom ⌝ }
 {
     match whom {
-        Whom::Nobody => true,
-        Whom::Session => false,
-        Whom::Film(_) => false,
-        Whom::ImageBox { film: _, place: _ } => false,
+        Instance::Nobody => true,
+        Instance::TheSession => false,
+        Instance::TheFilm(_) => false,
+        Instance::TheBox { film: _, place: _ } => false,
     }
 }
 
@@ -38,7 +39,7 @@ pub fn create_broken(k: Core, c: &[u8], sent: Part) -> u16
         return 0x0117;
     }
     let numbers = k.numbers;
-    if naming::is_rooted(numbers, uid) {
+    if instances::is_rooted(numbers, uid) {
         return 0x0117;
     }
     if !is_nobody(instances::named(k, uid)) {
@@ -47,49 +48,49 @@ pub fn create_broken(k: Core, c: &[u8], sent: Part) -> u16
     0
 }
 
-fn is_a_session(whom: Whom) -> bool
-    ensures { λ r. ⌜ r ≡ ofClass sessions (instanceMeant whom) ⌝ }
+fn is_a_session(whom: Instance) -> bool
+    ensures { λ r. ⌜ r ≡ ofClass Sessions whom ⌝ }
 {
     match whom {
-        Whom::Nobody => false,
-        Whom::Session => true,
-        Whom::Film(_) => false,
-        Whom::ImageBox { film: _, place: _ } => false,
+        Instance::Nobody => false,
+        Instance::TheSession => true,
+        Instance::TheFilm(_) => false,
+        Instance::TheBox { film: _, place: _ } => false,
     }
 }
 
-fn is_a_film(whom: Whom) -> bool
-    ensures { λ r. ⌜ r ≡ ofClass films (instanceMeant whom) ⌝ }
+fn is_a_film(whom: Instance) -> bool
+    ensures { λ r. ⌜ r ≡ ofClass Films whom ⌝ }
 {
     match whom {
-        Whom::Nobody => false,
-        Whom::Session => false,
-        Whom::Film(_) => true,
-        Whom::ImageBox { film: _, place: _ } => false,
+        Instance::Nobody => false,
+        Instance::TheSession => false,
+        Instance::TheFilm(_) => true,
+        Instance::TheBox { film: _, place: _ } => false,
     }
 }
 
-fn is_a_box(whom: Whom) -> bool
-    ensures { λ r. ⌜ r ≡ ofClass boxes (instanceMeant whom) ⌝ }
+fn is_a_box(whom: Instance) -> bool
+    ensures { λ r. ⌜ r ≡ ofClass Boxes whom ⌝ }
 {
     match whom {
-        Whom::Nobody => false,
-        Whom::Session => false,
-        Whom::Film(_) => false,
-        Whom::ImageBox { film: _, place: _ } => true,
+        Instance::Nobody => false,
+        Instance::TheSession => false,
+        Instance::TheFilm(_) => false,
+        Instance::TheBox { film: _, place: _ } => true,
     }
 }
 
 // Whether an instance is of a class.
-fn of_class(class: Class, whom: Whom) -> bool
-    ensures { λ r. ⌜ r ≡ ofClass (classMeant class) (instanceMeant whom) ⌝ }
+fn of_class(class: Class, whom: Instance) -> bool
+    ensures { λ r. ⌜ r ≡ ofClass class whom ⌝ }
 {
     match class {
         Class::Verification => false,
         Class::Sessions => is_a_session(whom),
         Class::Films => is_a_film(whom),
         Class::Boxes => is_a_box(whom),
-        Class::Unknown => false,
+        Class::UnknownClass => false,
     }
 }
 
@@ -110,41 +111,41 @@ pub fn target_broken(k: Core, c: &[u8], class: Part, instance: Part) -> u16
 }
 
 fn is_unknown(class: Class) -> bool
-    ensures { λ r. ⌜ r ≡ isUnknown (classMeant class) ⌝ }
+    ensures { λ r. ⌜ r ≡ isUnknown class ⌝ }
 {
     match class {
         Class::Verification => false,
         Class::Sessions => false,
         Class::Films => false,
         Class::Boxes => false,
-        Class::Unknown => true,
+        Class::UnknownClass => true,
     }
 }
 
-fn is_too_long(came: Data, d: &[u8]) -> bool
-    ensures { λ r. ⌜ r ≡ isTooLong (dataMeant came (now (d .entry))) ⌝ }
+fn is_too_long(came: Came) -> bool
+    ensures { λ r. ⌜ r ≡ isTooLong came ⌝ }
 {
     match came {
-        Data::Absent => false,
-        Data::Whole => false,
-        Data::TooLong => true,
+        Came::Absent => false,
+        Came::Whole => false,
+        Came::TooLong => true,
     }
 }
 
-fn is_unreadable(explicit: bool, came: Data, d: &[u8]) -> bool
-    ensures { λ r. ⌜ r ≡ isUnreadable explicit (dataMeant came (now (d .entry))) ⌝ }
+fn is_unreadable(syntax: Syntax, came: Came, d: &[u8]) -> bool
+    ensures { λ r. ⌜ r ≡ isUnreadable syntax came (now (d .entry)) ⌝ }
 {
     match came {
-        Data::Absent => false,
-        Data::Whole => !commands::is_read(elements::data_set(d, explicit)),
-        Data::TooLong => false,
+        Came::Absent => false,
+        Came::Whole => !commands::is_read(elements::data_set(d, syntax)),
+        Came::TooLong => false,
     }
 }
 
 // Checks 2 to 5: the number of the first rule that a request breaks, 0 where it breaks none.
-pub fn general_broken(k: Core, c: &[u8], came: Data, d: &[u8], operation: Operation) -> u16
+pub fn general_broken(k: Core, c: &[u8], came: Came, d: &[u8], operation: Operation) -> u16
     requires { ⌜ OperationIn (length (now c)) operation ⌝ }
-    ensures { λ r. ⌜ r ≡ firstBroken (generalRules k (now (c .entry)) (dataMeant came (now (d .entry))) operation) ⌝ }
+    ensures { λ r. ⌜ r ≡ firstBroken (generalRules k (now (c .entry)) (record { came = came; bytes = now (d .entry) }) operation) ⌝ }
 {
     let class = instances::class_of(instances::uid_at(c, instances::class_part(operation)));
     if is_unknown(class) {
@@ -153,11 +154,11 @@ pub fn general_broken(k: Core, c: &[u8], came: Data, d: &[u8], operation: Operat
     if !instances::offers(class, operation) {
         return 0x0211;
     }
-    if is_too_long(came, d) {
+    if is_too_long(came) {
         return 0x0213;
     }
     let opened = k.opened;
-    if is_unreadable(opened.syntax == 2, came, d) {
+    if is_unreadable(headers::syntax_of(opened.syntax), came, d) {
         return 0x0110;
     }
     0

@@ -9,7 +9,8 @@ use lib.Seq.{take-append-seam, drop-append-add, drop-at}
 use Rattle.octets.specs.Octets.{laid}
 use Rattle.rules.specs.Lists.{filledTo}
 use Rattle.rules.specs.declared.Input.{Input}
-use Rattle.rules.specs.Outcomes.{commandHeld, held}
+use Rattle.rules.specs.Records.{commandHeld}
+use Rattle.rules.specs.Outcomes.{held}
 use Rattle.collecting.specs.Collecting.{Filled}
 
 drop-replicate : (n m : ℕ) → n ≤ m → drop {A = ℕ} n (replicate m 0) ≡ replicate (m - n) 0

@@ -10,7 +10,9 @@ use borrow.Author.Tests.{leb-true, le-leb, lt-leb}
 use lib.Seq.{length-take-le}
 use Rattle.choice.specs.Pick.{pick}
 use Rattle.choice.proofs.Picks.{clash}
-use Rattle.strike.specs.Service.{Reading, unreadable, alone, withData}
+use Rattle.strike.specs.declared.Reading.{Reading}
+use Rattle.strike.specs.declared.Reading.the-variants.{NotReadable, Alone, WithData}
+use Rattle.strike.specs.declared.Came.the-variants.{Whole, TooLong}
 use Rattle.strike.specs.Machine as machine
 use Rattle.strike.specs.Machine.{idle, inCommand, skippingCommand, inData, skippingData, command, dataset, skips, gathers, overflows, stores, reads, collect, laidBy}
 use Rattle.octets.specs.Octets.{laid}
@@ -21,31 +23,31 @@ use Rattle.rules.specs.Commands.{understood, hasData}
 use Rattle.rules.specs.Sound.{readable}
 use Rattle.rules.specs.Lists.{filledTo}
 use Rattle.rules.specs.Calls.{readingOf, reading}
-use Rattle.rules.specs.Outcomes.{commandHeld, inputIn, inputHeld}
+use Rattle.rules.specs.Records.{commandHeld}
+use Rattle.rules.specs.Outcomes.{inputIn, inputHeld}
 use Rattle.collecting.specs.declared.Collecting.{Collecting}
 use Rattle.collecting.specs.declared.Collecting.the-variants.{Idle, InCommand, SkippingCommand, InData, SkippingData}
 use Rattle.collecting.specs.declared.Answer.{Answer}
-use Rattle.collecting.specs.declared.Reads.{Reads}
 use Rattle.collecting.proofs.Filled.{used-length}
-use Rattle.collecting.specs.Collecting.{ofCommand, isLast, fragmentOf, Filled, storedIn, readsOf, readTo, stateOf, gathersTo, storesTo, commandNext, dataNext, commandBefore, holds, kept, collectedOf, storeAnswer, overflowAnswer, inputBy, byNext, gatheredIn}
+use Rattle.collecting.specs.Collecting.{ofCommand, isLast, fragmentOf, Filled, storedIn, readTo, stateOf, gathersTo, storesTo, commandNext, dataNext, commandBefore, holds, kept, collectedOf, dataAnswer, inputBy, byNext, gatheredIn}
 
 -- What a whole command says.
 
-told : (withSet : Bool) (c : Command) → readable c ≡ false → readingOf withSet c ≡ unreadable
+told : (withSet : Bool) (c : Command) → readable c ≡ false → readingOf withSet c ≡ NotReadable
 told withSet Unreadable e = refl
 told withSet (Unknown message field) e = absurd (clash e refl)
 told withSet (Known r) e = absurd (clash e refl)
 
-read-told : (withSet : Bool) (c : Command) → readable c ≡ true → readingOf withSet c ≡ pick withSet withData alone
+read-told : (withSet : Bool) (c : Command) → readable c ≡ true → readingOf withSet c ≡ pick withSet WithData Alone
 read-told withSet Unreadable e = absurd (clash refl e)
 read-told withSet (Unknown message field) e = refl
 read-told withSet (Known r) e = refl
 
-pub reading-none : (c : List ℕ) → readable (understood c) ≡ false → reading c ≡ unreadable
+pub reading-none : (c : List ℕ) → readable (understood c) ≡ false → reading c ≡ NotReadable
 unfolding reading
 reading-none c e = told (hasData c) (understood c) e
 
-pub reading-some : (c : List ℕ) → readable (understood c) ≡ true → reading c ≡ pick (hasData c) withData alone
+pub reading-some : (c : List ℕ) → readable (understood c) ≡ true → reading c ≡ pick (hasData c) WithData Alone
 unfolding reading
 reading-some c e = read-told (hasData c) (understood c) e
 
@@ -136,26 +138,26 @@ holds-kept answer state i got c e f = rw (e, f)
 pub holds-filled : (answer : Answer) (state : Collecting) (i : Input) (got : ℕ) → Filled i → holds answer state i got ≡ kept answer state (commandHeld i) got
 holds-filled answer state i got h = holds-kept answer state i got (commandHeld i) (used-length i h) (h .1)
 
-pub overflows-kept : (c : List ℕ) (last : Bool) → collectedOf (overflows c last) ≡ kept (overflowAnswer last) (storesTo false last) c 0
+pub overflows-kept : (c : List ℕ) (last : Bool) → collectedOf (overflows c last) ≡ kept (dataAnswer last TooLong) (storesTo false last) c 0
 unfolding collectedOf overflows inputHeld
 overflows-kept c true = refl
 overflows-kept c false = refl
 
 pub stores-kept : (room : ℕ) (c d : List ℕ) (last : Bool) → leb (length d) room ≡ true
-    → collectedOf (stores room c d last) ≡ kept (storeAnswer last) (storesTo true last) c (length d)
+    → collectedOf (stores room c d last) ≡ kept (dataAnswer last Whole) (storesTo true last) c (length d)
 unfolding collectedOf stores inputHeld
 stores-kept room c d true e = rw e
 stores-kept room c d false e = rw e
 
 -- a whole command, by what it says
-reads-as : (x : Reading) (c : List ℕ) → collectedOf (reads x c) ≡ readTo (readsOf x) c
+reads-as : (x : Reading) (c : List ℕ) → collectedOf (reads x c) ≡ readTo x c
 unfolding collectedOf reads inputHeld
-reads-as unreadable c = refl
-reads-as alone c = refl
-reads-as withData c = refl
+reads-as NotReadable c = refl
+reads-as Alone c = refl
+reads-as WithData c = refl
 
-pub read-arm : (i : Input) {x : Reads} → readsOf (reading (commandHeld i)) ≡ x → collectedOf (reads (reading (commandHeld i)) (commandHeld i)) ≡ readTo x (commandHeld i)
-read-arm i e = reads-as (reading (commandHeld i)) (commandHeld i) ∙ ap (λ (r : Reads). readTo r (commandHeld i)) e
+pub read-arm : (i : Input) {x : Reading} → reading (commandHeld i) ≡ x → collectedOf (reads (reading (commandHeld i)) (commandHeld i)) ≡ readTo x (commandHeld i)
+read-arm i e = reads-as (reading (commandHeld i)) (commandHeld i) ∙ ap (λ (r : Reading). readTo r (commandHeld i)) e
 
 -- a command fragment, by the next state
 pub measured : (s s′ : Collecting) (t t′ last : Bool) → s ≡ s′ → t′ ≡ t → commandNext s t last ≡ commandNext s′ t′ last
@@ -172,7 +174,7 @@ module _ (i : Input) (bytes : List ℕ) (last : Bool) {x : Collecting} (e : comm
   command-fits k = leb-true (length (commandBefore i) + length bytes) 1024 (kept-fits (stateOf (i .phase)) (leb (length (commandBefore i) + length bytes) 1024) last (ap keeps e ∙ k))
 
 -- data past the message buffer
-pub overflow-arm : (i : Input) (last : Bool) (answer : Answer) (next : Collecting) → Filled i → answer ≡ overflowAnswer last → next ≡ dataNext SkippingData false last
+pub overflow-arm : (i : Input) (last : Bool) (answer : Answer) (next : Collecting) → Filled i → answer ≡ dataAnswer last TooLong → next ≡ dataNext SkippingData false last
     → holds answer next i 0 ≡ collectedOf (overflows (commandHeld i) last)
 unfolding dataNext
 overflow-arm i last answer next h e f = holds-filled answer next i 0 h ∙ rw (e, f) (sym (overflows-kept (commandHeld i) last))
@@ -196,7 +198,7 @@ module _ (i : Input) (message bytes : List ℕ) (last : Bool) (g : i .got ≤ le
   unfolding stores
   stored-over h = rw (stored-length, lt-leb (i .got + length bytes) (length message) h)
 
-  pub stored-arm : (answer : Answer) (next : Collecting) → Filled i → i .got + length bytes ≤ length message → answer ≡ storeAnswer last → next ≡ dataNext InData true last
+  pub stored-arm : (answer : Answer) (next : Collecting) → Filled i → i .got + length bytes ≤ length message → answer ≡ dataAnswer last Whole → next ≡ dataNext InData true last
       → holds answer next i (i .got + length bytes) ≡ collectedOf (stores (length message) (commandHeld i) (take (i .got) message ++ bytes) last)
   unfolding dataNext
   stored-arm answer next f h e k =

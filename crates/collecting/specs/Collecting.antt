@@ -6,21 +6,22 @@ use mathlib.Core.List.{List, []}
 use lib.Dec.{eqb, leb}
 use lib.ListN.{length, take, drop}
 use Rattle.choice.specs.Pick.{pick}
-use Rattle.strike.specs.Service.{Reading, unreadable, alone, withData, DataSet, noData, whole, tooLong}
+use Rattle.strike.specs.declared.Reading.{Reading}
+use Rattle.strike.specs.declared.Reading.the-variants.{NotReadable, Alone, WithData}
+use Rattle.strike.specs.declared.Came.{Came}
+use Rattle.strike.specs.declared.Came.the-variants.{Absent}
 use Rattle.strike.specs.Machine as machine
-use Rattle.strike.specs.Machine.{idle, inData, skippingData, Fragment, command, dataset, controlByte, Outcome, ignores, waits, drops, asks, skippingCommand, inCommand, skips, gathers, reads}
+use Rattle.strike.specs.Machine.{commandLimit, idle, inData, skippingData, Fragment, command, dataset, controlByte, Outcome, ignores, waits, drops, asks, skippingCommand, inCommand, skips, gathers, reads}
 use Rattle.octets.specs.Octets.{laid}
-use Rattle.rules.specs.Bounds.{commandLimit}
 use Rattle.rules.specs.Lists.{filledTo}
 use Rattle.rules.specs.declared.Input.{Input}
 use Rattle.rules.specs.Calls.{reading}
-use Rattle.rules.specs.Outcomes.{commandHeld, held, inputIn, inputHeld}
+use Rattle.rules.specs.Records.{commandHeld}
+use Rattle.rules.specs.Outcomes.{held, inputIn, inputHeld}
 use Rattle.collecting.specs.declared.Collecting.{Collecting}
 use Rattle.collecting.specs.declared.Collecting.the-variants.{Idle, InCommand, SkippingCommand, InData, SkippingData}
 use Rattle.collecting.specs.declared.Answer.{Answer}
-use Rattle.collecting.specs.declared.Answer.the-variants.{Ignored, Wait, Dropped, AsksAlone, AsksWhole, AsksTooLong}
-use Rattle.collecting.specs.declared.Reads.{Reads}
-use Rattle.collecting.specs.declared.Reads.the-variants.{Unreadable, Alone, WithData}
+use Rattle.collecting.specs.declared.Answer.the-variants.{Ignored, Wait, Dropped, Asks}
 use Rattle.collecting.specs.declared.Collected.{Collected}
 
 -- the state that a number of the records stands for, and its number
@@ -68,11 +69,6 @@ holds answer state i got = record { answer = answer; input = record { phase = nu
 abbrev pub kept : Answer → Collecting → List ℕ → ℕ → Collected
 kept answer state c got = record { answer = answer; input = held (numberOf state) c got }
 
-abbrev pub asksOf : List ℕ → DataSet → Collected
-asksOf c noData = kept AsksAlone Idle c 0
-asksOf c (whole d) = kept AsksWhole Idle c (length d)
-asksOf c tooLong = kept AsksTooLong Idle c 0
-
 -- the command is within its 1,024 bytes, and the rest of them are zeros
 abbrev pub Filled : Input → Type 0
 Filled i = (i .used ≤ commandLimit) × (i .command ≡ filledTo commandLimit 0 (commandHeld i))
@@ -86,41 +82,30 @@ unfoldable pub collectedOf : Outcome → Collected
 collectedOf ignores = bare Ignored Idle
 collectedOf (waits i) = record { answer = Wait; input = inputHeld i }
 collectedOf drops = bare Dropped Idle
-collectedOf (asks c d) = asksOf c d
+collectedOf (asks c d) = kept (Asks (d .came)) Idle c (length (d .bytes))
 
 -- the outcome that a value means, with the message buffer afterwards
 abbrev pub meantBy : Answer → Input → List ℕ → Outcome
 meantBy Ignored i message = ignores
 meantBy Wait i message = waits (inputIn i message)
 meantBy Dropped i message = drops
-meantBy AsksAlone i message = asks (commandHeld i) noData
-meantBy AsksWhole i message = asks (commandHeld i) (whole (take (i .got) message))
-meantBy AsksTooLong i message = asks (commandHeld i) tooLong
+meantBy (Asks came) i message = asks (commandHeld i) (record { came = came; bytes = take (i .got) message })
 
 unfoldable pub outcomeMeant : Collected → List ℕ → Outcome
 outcomeMeant r message = meantBy (r .answer) (r .input) message
 
--- the answer to data that fits, and to data past the message buffer
-abbrev pub storeAnswer : Bool → Answer
-storeAnswer last = pick last AsksWhole Wait
-
-abbrev pub overflowAnswer : Bool → Answer
-overflowAnswer last = pick last AsksTooLong Wait
+-- the answer to data, whole or too long
+abbrev pub dataAnswer : Bool → Came → Answer
+dataAnswer last came = pick last (Asks came) Wait
 
 -- the message buffer after data in data
 abbrev pub storedIn : ℕ → List ℕ → List ℕ → List ℕ
 storedIn got message bytes = pick (leb (got + length bytes) (length message)) (laid message got bytes) message
 
--- what a whole command says, as a value
-abbrev pub readsOf : Reading → Reads
-readsOf unreadable = Unreadable
-readsOf alone = Alone
-readsOf withData = WithData
-
 -- what a whole command comes to
-abbrev pub readTo : Reads → List ℕ → Collected
-readTo Unreadable c = bare Dropped Idle
-readTo Alone c = kept AsksAlone Idle c 0
+abbrev pub readTo : Reading → List ℕ → Collected
+readTo NotReadable c = bare Dropped Idle
+readTo Alone c = kept (Asks Absent) Idle c 0
 readTo WithData c = kept Wait InData c 0
 
 abbrev pub waitsWith : Input → Collected

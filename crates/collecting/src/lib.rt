@@ -1,6 +1,8 @@
 // Collecting: a fragment's header, and what a fragment comes to, held to the book.
 use rules::Command;
 use rules::Input;
+use strike::Came;
+use strike::Reading;
 ghost use mathlib.Core.Path.{_≡_};
 ghost use Prim.Native.Nat.{_+_, _≤_, _<_};
 ghost use mathlib.Core.List.{_++_};
@@ -12,8 +14,9 @@ ghost use Rattle.rules.specs.Lists.{filledTo};
 ghost use Rattle.rules.specs.Commands.{understood};
 ghost use Rattle.rules.specs.Sound.{readable};
 ghost use Rattle.rules.specs.Calls.{reading};
-ghost use Rattle.rules.specs.Outcomes.{commandHeld, held, inputIn};
-ghost use Rattle.collecting.specs.Collecting.{readsOf, Filled, storedIn, waitsWith, stateOf, numberOf, gathersTo, storesTo, commandNext, dataNext, commandBefore, bare, holds, storeAnswer, overflowAnswer, collectedOf, ofCommand, isLast, fragmentOf, gatheredIn};
+ghost use Rattle.rules.specs.Records.{commandHeld};
+ghost use Rattle.rules.specs.Outcomes.{held, inputIn};
+ghost use Rattle.collecting.specs.Collecting.{Filled, storedIn, waitsWith, stateOf, numberOf, gathersTo, storesTo, commandNext, dataNext, commandBefore, bare, holds, dataAnswer, collectedOf, ofCommand, isLast, fragmentOf, gatheredIn};
 
 // "One message is collected through idle, in command, skipping command, in data and skipping data."
 pub enum Collecting {
@@ -24,21 +27,12 @@ pub enum Collecting {
     SkippingData,
 }
 
-// What a fragment comes to; a request is asked for alone, with its whole data set, or with one that was too long.
+// What a fragment comes to; a request is asked for with what came as its data set.
 pub enum Answer {
     Ignored,
     Wait,
     Dropped,
-    AsksAlone,
-    AsksWhole,
-    AsksTooLong,
-}
-
-// What a whole command says of the message.
-pub enum Reads {
-    Unreadable,
-    Alone,
-    WithData,
+    Asks(Came),
 }
 
 // The answer, and what is held afterwards; of a request its command, and how many bytes of data there are.
@@ -228,16 +222,16 @@ fn readable(c: &[u8]) -> bool
 }
 
 // What a whole command says of the message.
-fn read_as(c: &[u8]) -> Reads
-    ensures { λ r. ⌜ r ≡ readsOf (reading (now (c .entry))) ⌝ }
+fn read_as(c: &[u8]) -> Reading
+    ensures { λ r. ⌜ r ≡ reading (now (c .entry)) ⌝ }
 {
     if !readable(c) {
-        return Reads::Unreadable;
+        return Reading::NotReadable;
     }
     if commands::has_data(c) {
-        return Reads::WithData;
+        return Reading::WithData;
     }
-    Reads::Alone
+    Reading::Alone
 }
 
 // "an unreadable command is dropped, idle. Without data set the request is done at once; else in data."
@@ -249,9 +243,9 @@ fn read(i: Input) -> Collected
     let command = i.command;
     let reads = read_as(&command[0..used]);
     match reads {
-        Reads::Unreadable => nothing(Answer::Dropped, Collecting::Idle),
-        Reads::Alone => holding(Answer::AsksAlone, Collecting::Idle, i, 0),
-        Reads::WithData => holding(Answer::Wait, Collecting::InData, i, 0),
+        Reading::NotReadable => nothing(Answer::Dropped, Collecting::Idle),
+        Reading::Alone => holding(Answer::Asks(Came::Absent), Collecting::Idle, i, 0),
+        Reading::WithData => holding(Answer::Wait, Collecting::InData, i, 0),
     }
 }
 
@@ -291,21 +285,11 @@ fn waiting(input: Input) -> Collected
     }
 }
 
-fn store_answer(last: bool) -> Answer
-    ensures { λ r. ⌜ r ≡ storeAnswer last ⌝ }
+fn data_answer(last: bool, came: Came) -> Answer
+    ensures { λ r. ⌜ r ≡ dataAnswer last came ⌝ }
 {
     if last {
-        Answer::AsksWhole
-    } else {
-        Answer::Wait
-    }
-}
-
-fn overflow_answer(last: bool) -> Answer
-    ensures { λ r. ⌜ r ≡ overflowAnswer last ⌝ }
-{
-    if last {
-        Answer::AsksTooLong
+        Answer::Asks(came)
     } else {
         Answer::Wait
     }
@@ -317,7 +301,7 @@ fn overflowed(i: Input, last: bool) -> Collected
     ensures { λ r. ⌜ r ≡ collectedOf (overflows (commandHeld i) last) ⌝ }
 {
     let next = Collecting::SkippingData.after_data(false, last);
-    holding(overflow_answer(last), next, i, 0)
+    holding(data_answer(last, Came::TooLong), next, i, 0)
 }
 
 // A data fragment in data: its bytes are measured before any is copied.
@@ -331,7 +315,7 @@ fn stored(i: Input, message: &mut [u8], bytes: &[u8], last: bool) -> Collected
     }
     octets::put(message, got, bytes);
     let next = Collecting::InData.after_data(true, last);
-    holding(store_answer(last), next, i, got + bytes.len())
+    holding(data_answer(last, Came::Whole), next, i, got + bytes.len())
 }
 
 // A data fragment: what it comes to, by the state that it is met in.

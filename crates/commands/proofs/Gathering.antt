@@ -11,6 +11,7 @@ use lib.Seq.{getD-set-same, getD-set-other}
 use borrow.Author.Tests.{ltb-true, ltb-false, eqb-true, eqb-false, lt-ltb, le-ltb}
 use Rattle.choice.specs.Pick.{both}
 use Rattle.choice.proofs.Picks.{pick-cases, both-fails, clash}
+use Rattle.headers.specs.declared.Syntax.the-variants.{Implicit}
 use Rattle.headers.specs.declared.Part.{Part}
 use Rattle.headers.specs.declared.Close.the-variants.{Here, Not}
 use Rattle.headers.specs.declared.Close.{Close}
@@ -19,7 +20,7 @@ use Rattle.headers.specs.Header.{tagAt, headAt, closeAt}
 use Rattle.elements.specs.declared.Read.{Read}
 use Rattle.elements.specs.declared.Read.the-variants.{Past, Refused}
 use Rattle.elements.specs.declared.Found.{Found}
-use Rattle.elements.specs.Reader.{Mark, whole, itemEnd, elementAt, listFrom, listAt, dataSet}
+use Rattle.elements.specs.Reader.{Mark, whole, itemEnd, elementAt, listFrom, listAt, dataSet, dataScope}
 use Rattle.elements.specs.Find.{elementsFrom, among, found, findAt}
 use Rattle.elements.proofs.Laws.{element-past, element-above, list-done, list-refused, list-more, elements-done, elements-more, find-done, find-here, find-more, find-below}
 use Rattle.rules.specs.Lists.{every}
@@ -34,8 +35,8 @@ mark at floor = record { at = at; floor = floor }
 -- from a mark on it is read to its end, with all elements in group 0000
 unfoldable pub wholeFrom : List ℕ → ℕ → ℕ → Bool
 wholeFrom c at floor =
-    both (isRead (listFrom (elementAt c false 4) c (whole c) (mark at floor)))
-    (every (λ m. ltb (tagAt c (m .at)) 65536) (elementsFrom c false 4 (whole c) (mark at floor)))
+    both (isRead (listFrom (elementAt c Implicit 4) c (whole c) (mark at floor)))
+    (every (λ m. ltb (tagAt c (m .at)) 65536) (elementsFrom c (dataScope c Implicit) (mark at floor)))
 
 pub whole-start : (c : List ℕ) → wholeCommand c ≡ wholeFrom c 0 0
 unfolding wholeCommand wholeFrom groupZero dataSet listAt
@@ -44,25 +45,25 @@ whole-start c = refl
 module _ (c : List ℕ) (at floor : ℕ) (h : at ≤ length c) where
   whole-done : {q : ℕ} → closeAt c itemEnd (whole c) at ≡ Here q → wholeFrom c at floor ≡ true
   unfolding wholeFrom every
-  whole-done k = rw (list-done c false 4 (whole c) at h floor k, elements-done c false 4 (whole c) at h floor k)
+  whole-done k = rw (list-done c Implicit 4 (whole c) at h floor k, elements-done c (dataScope c Implicit) at h floor k)
 
-  whole-refused : {n : ℕ} → closeAt c itemEnd (whole c) at ≡ Not → elementAt c false 4 (length c) at floor ≡ Refused n → wholeFrom c at floor ≡ false
+  whole-refused : {n : ℕ} → closeAt c itemEnd (whole c) at ≡ Not → elementAt c Implicit 4 (length c) at floor ≡ Refused n → wholeFrom c at floor ≡ false
   unfolding wholeFrom
-  whole-refused k e = rw (list-refused c false 4 (whole c) at h floor k e)
+  whole-refused k e = rw (list-refused c Implicit 4 (whole c) at h floor k e)
 
-  whole-other : {q : ℕ} → closeAt c itemEnd (whole c) at ≡ Not → elementAt c false 4 (length c) at floor ≡ Past q → 65536 ≤ tagAt c at → wholeFrom c at floor ≡ false
+  whole-other : {q : ℕ} → closeAt c itemEnd (whole c) at ≡ Not → elementAt c Implicit 4 (length c) at floor ≡ Past q → 65536 ≤ tagAt c at → wholeFrom c at floor ≡ false
   unfolding wholeFrom every
-  whole-other k e t = rw (elements-more c false 4 (whole c) at h floor k e, le-ltb (tagAt c at) 65536 t) (both-fails (isRead (listFrom (elementAt c false 4) c (whole c) (mark at floor))))
+  whole-other k e t = rw (elements-more c (dataScope c Implicit) at h floor k e, le-ltb (tagAt c at) 65536 t) (both-fails (isRead (listFrom (elementAt c Implicit 4) c (whole c) (mark at floor))))
 
-  whole-more : {q : ℕ} → closeAt c itemEnd (whole c) at ≡ Not → elementAt c false 4 (length c) at floor ≡ Past q → tagAt c at < 65536 → wholeFrom c at floor ≡ wholeFrom c q (tagAt c at + 1)
+  whole-more : {q : ℕ} → closeAt c itemEnd (whole c) at ≡ Not → elementAt c Implicit 4 (length c) at floor ≡ Past q → tagAt c at < 65536 → wholeFrom c at floor ≡ wholeFrom c q (tagAt c at + 1)
   unfolding wholeFrom every
-  whole-more k e t = rw (list-more c false 4 (whole c) at h floor k e, elements-more c false 4 (whole c) at h floor k e, lt-ltb (tagAt c at) 65536 t)
+  whole-more k e t = rw (list-more c Implicit 4 (whole c) at h floor k e, elements-more c (dataScope c Implicit) at h floor k e, lt-ltb (tagAt c at) 65536 t)
 
 -- The place of one tag.
 
 -- what a command holds under a tag from a mark on
 abbrev findFrom : List ℕ → ℕ → ℕ → ℕ → Found
-findFrom c tag at floor = among c false (length c) tag (elementsFrom c false 4 (whole c) (mark at floor))
+findFrom c tag at floor = among c Implicit (length c) tag (elementsFrom c (dataScope c Implicit) (mark at floor))
 
 -- what is known of it at a mark: below the floor it is told, and above it is empty as yet
 pub record Known (c : List ℕ) (at floor tag : ℕ) (p : Part) : Type 0 where
@@ -84,24 +85,24 @@ module _ (c : List ℕ) (at floor : ℕ) (h : at ≤ length c) (tag : ℕ) (p : 
   known-done : {q : ℕ} → closeAt c itemEnd (whole c) at ≡ Here q → p ≡ placed (inCommand c tag)
   known-done k =
       by-order tag floor (known .below)
-      (λ l. known .above l .0 ∙ sym (known .above l .1 ∙ ap placed (find-done c false 4 (whole c) at h floor tag k)))
+      (λ l. known .above l .0 ∙ sym (known .above l .1 ∙ ap placed (find-done c (dataScope c Implicit) at h floor tag k)))
 
-  module _ {q : ℕ} (k : closeAt c itemEnd (whole c) at ≡ Not) (e : elementAt c false 4 (length c) at floor ≡ Past q) where
-    known-here : tagAt c at ≡ tag → Known c q (tagAt c at + 1) tag (placed (found (headAt c false (length c) at floor)))
+  module _ {q : ℕ} (k : closeAt c itemEnd (whole c) at ≡ Not) (e : elementAt c Implicit 4 (length c) at floor ≡ Past q) where
+    known-here : tagAt c at ≡ tag → Known c q (tagAt c at + 1) tag (placed (found (headAt c Implicit (length c) at floor)))
     known-here t =
-        let l = element-above c false 4 (length c) at floor q e in
+        let l = element-above c Implicit 4 (length c) at floor q e in
         record {
-          below = λ _. sym (known .above (omega arith) .1 ∙ ap placed (find-here c false 4 (whole c) at h floor tag k e t));
+          below = λ _. sym (known .above (omega arith) .1 ∙ ap placed (find-here c (dataScope c Implicit) at h floor tag k e t));
           above = λ g. absurd (omega arith);
         }
 
     known-more : (tagAt c at ≡ tag → ⊥) → Known c q (tagAt c at + 1) tag p
     known-more t =
-        let l = element-above c false 4 (length c) at floor q e in
-        let on = find-more c false 4 (whole c) at h floor tag k e t in
+        let l = element-above c Implicit 4 (length c) at floor q e in
+        let on = find-more c (dataScope c Implicit) at h floor tag k e t in
         record {
           below = λ g. by-order tag floor (known .below)
-              (λ f. known .above f .0 ∙ sym (known .above f .1 ∙ ap placed (on ∙ find-below c false (length c) tag 4 (whole c) (mark q (tagAt c at + 1)) g)));
+              (λ f. known .above f .0 ∙ sym (known .above f .1 ∙ ap placed (on ∙ find-below c (dataScope c Implicit) tag (mark q (tagAt c at + 1)) g)));
           above = λ g. (known .above (omega arith) .0, known .above (omega arith) .1 ∙ ap placed on);
         }
 
@@ -143,18 +144,18 @@ module _ (c : List ℕ) (at floor : ℕ) (h : at ≤ length c) (parts : List Par
   gathering-done : {q : ℕ} → closeAt c itemEnd (whole c) at ≡ Here q → Holds c parts
   gathering-done k = record { all = g .all; each = λ tag l. known-done c at floor h tag _ (g .each tag l) k }
 
-  module _ {q : ℕ} (k : closeAt c itemEnd (whole c) at ≡ Not) (e : elementAt c false 4 (length c) at floor ≡ Past q) where
-    told-each : (tag : ℕ) → slotOf tag < 9 → (t : Bool) → eqb (slotOf (tagAt c at)) (slotOf tag) ≡ t → Known c q (tagAt c at + 1) tag (getD (set parts (slotOf (tagAt c at)) (placed (found (headAt c false (length c) at floor)))) (slotOf tag) noPart)
+  module _ {q : ℕ} (k : closeAt c itemEnd (whole c) at ≡ Not) (e : elementAt c Implicit 4 (length c) at floor ≡ Past q) where
+    told-each : (tag : ℕ) → slotOf tag < 9 → (t : Bool) → eqb (slotOf (tagAt c at)) (slotOf tag) ≡ t → Known c q (tagAt c at + 1) tag (getD (set parts (slotOf (tagAt c at)) (placed (found (headAt c Implicit (length c) at floor)))) (slotOf tag) noPart)
     told-each tag l true t =
         let same = eqb-true (slotOf (tagAt c at)) (slotOf tag) t in
-        rw (same, getD-set-same parts (slotOf tag) (placed (found (headAt c false (length c) at floor))) noPart (omega (arith, g .all)))
+        rw (same, getD-set-same parts (slotOf tag) (placed (found (headAt c Implicit (length c) at floor))) noPart (omega (arith, g .all)))
         (known-here c at floor h tag _ (g .each tag l) k e (slot-same (tagAt c at) tag l same))
     told-each tag l false t =
         let other = eqb-false (slotOf (tagAt c at)) (slotOf tag) t in
-        rw (getD-set-other parts (slotOf (tagAt c at)) (slotOf tag) (placed (found (headAt c false (length c) at floor))) noPart (λ d. other (sym d)))
+        rw (getD-set-other parts (slotOf (tagAt c at)) (slotOf tag) (placed (found (headAt c Implicit (length c) at floor))) noPart (λ d. other (sym d)))
         (known-more c at floor h tag _ (g .each tag l) k e (λ d. other (ap slotOf d)))
 
-    gathering-more : Gathering c q (tagAt c at + 1) (set parts (slotOf (tagAt c at)) (placed (found (headAt c false (length c) at floor))))
+    gathering-more : Gathering c q (tagAt c at + 1) (set parts (slotOf (tagAt c at)) (placed (found (headAt c Implicit (length c) at floor))))
     gathering-more = record { all = length-set parts _ _ ∙ g .all; each = λ tag l. told-each tag l (eqb (slotOf (tagAt c at)) (slotOf tag)) refl }
 
 -- One turn of the walk, by what the code tells on its way.
@@ -166,7 +167,7 @@ module _ (c : List ℕ) (at floor : ℕ) (parts : List Part) (inv : (at ≤ leng
       let k = sym closes ∙ e in
       record { told = sym (inv .1 ∙ whole-done c at floor (inv .0) k); held = λ _. gathering-done c at floor (inv .0) parts (inv .2) k }
 
-  module _ (on : x ≡ Not) (y : Read) (reads : y ≡ elementAt c false 4 (length c) at floor) where
+  module _ (on : x ≡ Not) (y : Read) (reads : y ≡ elementAt c Implicit 4 (length c) at floor) where
     stops : wholeFrom c at floor ≡ false → Gathers c (record { whole = false; parts = parts })
     stops e = record { told = sym (inv .1 ∙ e); held = λ t. absurd (clash refl t) }
 
@@ -175,13 +176,13 @@ module _ (c : List ℕ) (at floor : ℕ) (parts : List Part) (inv : (at ≤ leng
 
     module _ {q : ℕ} (past : y ≡ Past q) where
       pub walk-past : (at + 8 ≤ q) × (q ≤ length c)
-      walk-past = element-past c false (length c) at floor (inv .0) 4 (sym reads ∙ past)
+      walk-past = element-past c Implicit (length c) at floor (inv .0) 4 (sym reads ∙ past)
 
       module _ (t : ℕ) (tag : t ≡ tagAt c at) where
         pub walk-other : 65536 ≤ t → Gathers c (record { whole = false; parts = parts })
         walk-other h = stops (whole-other c at floor (inv .0) (sym closes ∙ on) (sym reads ∙ past) (rw tag at h))
 
-        pub walk-on : t < 65536 → (head : Head) → head ≡ headAt c false (length c) at floor → (i : ℕ) → i ≡ slotOf t → (p : Part) → p ≡ placed (found head)
+        pub walk-on : t < 65536 → (head : Head) → head ≡ headAt c Implicit (length c) at floor → (i : ℕ) → i ≡ slotOf t → (p : Part) → p ≡ placed (found head)
             → (q ≤ length c) × (wholeCommand c ≡ wholeFrom c q (t + 1)) × Gathering c q (t + 1) (set parts i p)
         walk-on h head eh i ei p ep = (
           walk-past .1,

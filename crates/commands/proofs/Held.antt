@@ -2,17 +2,17 @@
 -- Assumes nothing.
 use Prim.Native.Nat.{ℕ, _-_, _≤_, _<_}
 use mathlib.Core.Path.{_≡_, ap}
-use mathlib.Core.Bool.{false}
 use mathlib.Core.List.{List}
 use native.Mathlib.Omega.{arith}
 use lib.Dec.{eqb}
 use lib.ListN.{length, getD}
 use Rattle.octets.specs.Octets.{numberAt}
 use Rattle.uids.specs.Uids.{isUid}
+use Rattle.headers.specs.declared.Syntax.the-variants.{Implicit}
 use Rattle.headers.specs.declared.Part.{Part}
 use Rattle.elements.specs.declared.Found.{Found}
 use Rattle.elements.specs.declared.Found.the-variants.{Missing, Value, Sequence}
-use Rattle.elements.specs.Reader.{whole}
+use Rattle.elements.specs.Reader.{dataScope}
 use Rattle.elements.proofs.Within.{FoundIn}
 use Rattle.elements.proofs.Laws.{find-within}
 use Rattle.rules.specs.Commands.{inCommand, noPart, placed, size, uidAt, hasNumber, numberIn, hasUid}
@@ -31,7 +31,7 @@ module _ {c : List ℕ} {places : List Part} (h : Holds c places) (tag : ℕ) (l
   held-in = rw (h .each tag l) (placed-in c tag)
 
   pub held-behind : size (getD places (slotOf tag) noPart) ≤ getD places (slotOf tag) noPart .stop - 8
-  held-behind = rw (h .each tag l) (found-behind (length c) (inCommand c tag) (find-within c false 4 (whole c) tag (omega arith)))
+  held-behind = rw (h .each tag l) (found-behind (length c) (inCommand c tag) (find-within c (dataScope c Implicit) tag (omega arith)))
 
   pub held-size : eqb (size (getD places (slotOf tag) noPart)) 2 ≡ hasNumber c tag
   held-size = ap (λ p. eqb (size p) 2) (h .each tag l)

@@ -6,6 +6,7 @@ use mathlib.Core.Bool.{true, false}
 use mathlib.Core.List.{List}
 use Rattle.choice.specs.Pick.{pick, both}
 use Rattle.choice.proofs.Picks.{both-fails, both-assoc}
+use Rattle.headers.specs.declared.Syntax.the-variants.{Implicit}
 use Rattle.rules.specs.declared.Command.the-variants.{Unreadable}
 use Rattle.elements.specs.Reader.{dataSet}
 use Rattle.rules.specs.Commands.{isRead, groupZero, lengthTold, wellFormed, requestIn, understood}
@@ -15,7 +16,7 @@ use Rattle.commands.specs.Requests.{hasNumbers}
 -- a command is whole, tells its length, and has its numbers
 by-tests : (c : List ℕ) → understood c ≡ pick (both (wholeCommand c) (both (lengthTold c) (hasNumbers c))) (requestIn c) Unreadable
 unfolding understood wellFormed wholeCommand hasNumbers
-by-tests c = ap (λ t. pick t (requestIn c) Unreadable) (both-assoc (isRead (dataSet c false)) (groupZero c) (both (lengthTold c) (hasNumbers c)))
+by-tests c = ap (λ t. pick t (requestIn c) Unreadable) (both-assoc (isRead (dataSet c Implicit)) (groupZero c) (both (lengthTold c) (hasNumbers c)))
 
 module _ (c : List ℕ) where
   pub not-whole : wholeCommand c ≡ false → Unreadable ≡ understood c

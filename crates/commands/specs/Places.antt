@@ -1,11 +1,12 @@
 -- The places of a command: where the value of each element that is looked at stands, and one for all others.
 use Prim.Native.Nat.{ℕ, _<_}
 use mathlib.Core.Path.{_≡_}
-use mathlib.Core.Bool.{Bool, true, false}
+use mathlib.Core.Bool.{Bool, true}
 use mathlib.Core.List.{List}
 use lib.Dec.{eqb}
 use lib.ListN.{length, getD}
 use Rattle.choice.specs.Pick.{pick, both}
+use Rattle.headers.specs.declared.Syntax.the-variants.{Implicit}
 use Rattle.headers.specs.declared.Part.{Part}
 use Rattle.elements.specs.Reader.{dataSet}
 use Rattle.rules.specs.Commands.{inCommand, noPart, placed, isRead, groupZero}
@@ -31,7 +32,7 @@ pub record Holds (c : List ℕ) (places : List Part) : Type 0 where
 
 -- "elements all in group 0000", in a command that can be read
 unfoldable pub wholeCommand : List ℕ → Bool
-wholeCommand c = both (isRead (dataSet c false)) (groupZero c)
+wholeCommand c = both (isRead (dataSet c Implicit)) (groupZero c)
 
 pub record Gathers (c : List ℕ) (places : Places) : Type 0 where
   pub told : places .whole ≡ wholeCommand c

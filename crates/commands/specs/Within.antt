@@ -3,8 +3,6 @@ use Prim.Native.Nat.{ℕ, _≤_}
 use Rattle.headers.specs.declared.Part.{Part}
 use Rattle.rules.specs.declared.Operation.{Operation}
 use Rattle.rules.specs.declared.Operation.the-variants.{Echo, Create, Set, Act, Delete}
-use Rattle.rules.specs.declared.Command.{Command}
-use Rattle.rules.specs.declared.Command.the-variants.{Unreadable, Unknown, Known}
 
 -- a place within so many bytes
 abbrev pub PartIn : ℕ → Part → Type 0
@@ -16,8 +14,3 @@ OperationIn n (Create v) = PartIn n (v .class) × PartIn n (v .sent)
 OperationIn n (Set t) = PartIn n (t .class) × PartIn n (t .instance)
 OperationIn n (Act a) = PartIn n (a .class) × PartIn n (a .instance)
 OperationIn n (Delete t) = PartIn n (t .class) × PartIn n (t .instance)
-
-abbrev pub CommandIn : ℕ → Command → Type 0
-CommandIn n Unreadable = Unit {0}
-CommandIn n (Unknown message field) = Unit {0}
-CommandIn n (Known request) = OperationIn n (request .operation)

@@ -5,6 +5,7 @@ use headers::Close;
 use headers::Head;
 use headers::Inside;
 use headers::Part;
+use headers::Syntax;
 use rules::Action;
 use rules::Command;
 use rules::Creation;
@@ -19,6 +20,7 @@ ghost use lib.Dec.{eqb};
 ghost use lib.ListN.{length, getD};
 ghost use Rattle.octets.specs.Octets.{numberAt};
 ghost use Rattle.uids.specs.Uids.{isUid, unpadded};
+ghost use Rattle.headers.specs.declared.Syntax.the-variants.{Implicit};
 ghost use Rattle.headers.specs.Header.{headAt};
 ghost use Rattle.elements.specs.Reader.{elementAt};
 ghost use Rattle.elements.specs.Find.{found};
@@ -105,13 +107,13 @@ fn value_of(head: Head) -> Part
 
 // An element whose header is judged already.
 fn behind(c: &[u8], at: usize, floor: usize, head: Head) -> Read
-    requires { ⌜ (at ≤ length (now c)) × (head ≡ headAt (now c) false (length (now c)) at floor) ⌝ }
-    ensures { λ r. ⌜ r ≡ elementAt (now (c .entry)) false 4 (length (now (c .entry))) at floor ⌝ }
+    requires { ⌜ (at ≤ length (now c)) × (head ≡ headAt (now c) Implicit (length (now c)) at floor) ⌝ }
+    ensures { λ r. ⌜ r ≡ elementAt (now (c .entry)) Implicit 4 (length (now (c .entry))) at floor ⌝ }
 {
     match head {
         Head::Fault(n) => Read::Refused(n),
         Head::Value(part) => Read::Past(part.stop),
-        Head::Nest(_) => elements::element(c, false, 4, c.len(), at, floor),
+        Head::Nest(_) => elements::element(c, Syntax::Implicit, 4, c.len(), at, floor),
     }
 }
 
@@ -132,7 +134,7 @@ fn gathered(c: &[u8]) -> Places
         if let Close::Here(_) = close {
             return Places { whole: true, parts };
         }
-        let head = syntaxes::element_head(c, false, whole.stop, p, floor);
+        let head = syntaxes::element_head(c, Syntax::Implicit, whole.stop, p, floor);
         match behind(c, p, floor, head) {
             Read::Past(q) => {
                 let t = headers::tag_at(c, p);
@@ -162,12 +164,7 @@ fn gathered(c: &[u8]) -> Places
 fn place(c: &[u8], tag: usize) -> Part
     ensures { λ r. ⌜ (r ≡ placed (inCommand (now (c .entry)) tag)) × (r .from ≤ r .stop) × (r .stop ≤ length (now (c .entry))) ⌝ }
 {
-    let whole = Inside {
-        from: 0,
-        stop: c.len(),
-        loose: false,
-    };
-    match finding::find(c, false, 4, whole, tag) {
+    match finding::find(c, elements::data_scope(c, Syntax::Implicit), tag) {
         Found::Missing => Part { from: 0, stop: 0 },
         Found::Value(part) => part,
         Found::Sequence(_) => Part { from: 0, stop: 0 },

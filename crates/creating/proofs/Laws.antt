@@ -1,10 +1,10 @@
 -- What checks 8 and 9 leave, and what the creation of a session or a film means.
 -- Assumes nothing.
 use Prim.Native.Nat.{ℕ, _+_, _-_, _<_, _≤_}
-use mathlib.Core.Path.{_≡_, refl, sym, ap, subst, _∙_}
+use mathlib.Core.Path.{_≡_, refl, sym, ap, _∙_}
 use mathlib.Core.Bool.{Bool, true, false}
 use mathlib.Core.List.{List, [], _∷_, _++_}
-use mathlib.Core.Option.{none, some}
+use mathlib.Core.Option.{some}
 use native.Mathlib.Omega.{arith}
 use lib.Dec.{eqb}
 use lib.ListN.{length, replicate}
@@ -20,25 +20,25 @@ use Rattle.rules.specs.declared.Film.{Film}
 use Rattle.rules.specs.declared.Numbers.{Numbers}
 use Rattle.rules.specs.declared.Shelf.{Shelf}
 use Rattle.rules.specs.declared.Core.{Core}
+use Rattle.rules.specs.declared.Contents.{Contents}
+use Rattle.rules.specs.declared.Verdict.{Verdict}
 use Rattle.rules.specs.declared.Request.{Request}
 use Rattle.rules.specs.Bounds.{mostFilms, noneLeft}
-use Rattle.rules.specs.Values.{blank, byColumns, countsIn}
-use Rattle.rules.specs.Records.{noName, madeName, sentName, uidOf, boxCount, filmsOf, shelved, isLive, withNumbers, withFilms, serialsUsed, boxUids}
+use Rattle.rules.specs.Values.{blank, kindIn, countsIn}
+use Rattle.rules.specs.Records.{boxCount, filmsOf, shelved, isLive, withNumbers, withFilms, serialsUsed}
 use Rattle.rules.specs.Commands.{size, bytesOf, uidAt}
 use Rattle.rules.specs.Attributes.{Listing, Standing, look, valueOf, attributeRules, sessionStandings, filmCreateStandings, filmWith, layoutFrom, layoutIn}
 use Rattle.rules.specs.Effects.{ownSerials, tooFewSerials, nameFrom, sessionCreated, newFilm, filmSerials, filmCreated}
-use Rattle.rules.specs.Checks.{Class, sessions, films, createRules, newSessionRules, newFilmRules, answered, quietly, nothing, sentUid, newUid, createPlan}
+use Rattle.rules.specs.declared.Class.the-variants.{Sessions, Films}
+use Rattle.rules.specs.Checks.{createRules, newSessionRules, newFilmRules, quietly, sentUid, boxesIn, createPlan, decidedBy}
 use Rattle.rules.specs.Sound.{coreSound}
 use Rattle.promises.proofs.Facts.{core-facts, numbers-facts, shelf-facts, filmRoom, between-true}
 use Rattle.promises.proofs.Standings.{kept-fine, mandatory-fine}
 use Rattle.promises.proofs.Layouts.{Lines, counts-lines, sum-between, layout-few}
 use Rattle.promises.proofs.NewNames.{sendable, sent-short}
-use Rattle.verdicts.specs.declared.NewBoxes.{NewBoxes}
-use Rattle.verdicts.specs.declared.Verdict.{Verdict}
-use Rattle.verdicts.specs.Verdicts.{instanceOf, meant, quiet, BoxesFit, Decides}
-use Rattle.verdicts.proofs.Laws.{quiet-meant}
-use Rattle.verdicts.proofs.Plans.{no-boxes-fit, kept-decides, done-decides, none-broken}
-use Rattle.creating.specs.FilmVerdict.{boxesIn, withNewBoxes}
+use Rattle.choice.proofs.Broken.{none-broken}
+use Rattle.verdicts.proofs.Plans.{kept-decides}
+use Rattle.creating.specs.FilmVerdict.{withNewBoxes}
 
 -- Check 8 before check 9.
 
@@ -89,14 +89,6 @@ own-left a b c h = omega arith
 pub first-fits : (a b c n : ℕ) → a + (b + c) ≤ noneLeft → 1 ≤ c → n ≡ b → a + n < noneLeft
 first-fits a b c n h g e = omega arith
 
--- the UID of what is created is the instance shown
-pub new-shown : (k : Core) (sent : List ℕ) → 1 ≤ k .numbers .serial → instanceOf (k .numbers) (nameFrom (k .numbers) sent) ≡ some (newUid k sent)
-new-shown k sent h = shown (eqb (length sent) 0) refl
-  where
-    shown : (t : Bool) → eqb (length sent) 0 ≡ t → instanceOf (k .numbers) (pick t (madeName (k .numbers .serial)) (sentName sent)) ≡ some (uidOf (k .numbers) (pick t (madeName (k .numbers .serial)) (sentName sent)))
-    shown true e = rw (ne-eqb (k .numbers .serial) 0 (λ z. omega arith))
-    shown false e = rw e
-
 -- Sessions.
 
 pub session-kept : (k : Core) (sent : List ℕ) (l : Listing) → firstBroken (newSessionRules k sent l) ≡ 0
@@ -109,9 +101,9 @@ session-kept k sent l e =
 
 -- Films.
 
-lines-some : (turned : Bool) (counts : List ℕ) → Lines counts → 1 ≤ boxCount (layoutFrom turned counts)
+lines-some : (kind : ℕ) (counts : List ℕ) → Lines counts → 1 ≤ boxCount (layoutFrom kind counts)
 unfolding boxCount
-lines-some turned counts g =
+lines-some kind counts g =
     rw (take-append-seam counts (replicate (6 - length counts) 0)) (omega (arith, g .some, sum-between counts (g .each) .0))
 
 pub record FilmKept (k : Core) (sent : List ℕ) (l : Listing) : Type 0 where
@@ -129,7 +121,7 @@ film-kept k sent l e =
     record {
       room = eqb-false (length (filmsOf (k .shelf))) 8 (h .1 .1 .1 .0);
       serials = ltb-false noneLeft (k .numbers .serial + filmSerials sent l) (h .1 .1 .1 .1 .0);
-      some = lines-some (byColumns v) (countsIn v) (counts-lines v (eqb-false (length (countsIn v)) 0 a));
+      some = lines-some (kindIn v) (countsIn v) (counts-lines v (eqb-false (length (countsIn v)) 0 a));
     }
 
 -- as many films as the shelf counts
@@ -154,45 +146,25 @@ pub new-few : (k : Core) (sent : List ℕ) (l : Listing) → boxCount (newFilm k
 unfolding newFilm filmWith
 new-few k sent l = layout-few l
 
-pub new-boxes-fit : (k : Core) (sent : List ℕ) (l : Listing) → firstBroken (newFilmRules k sent l) ≡ 0 → BoxesFit (boxesIn (newFilm k sent l))
-unfolding newFilm filmWith
-new-boxes-fit k sent l e = (layout-few l, omega (arith, film-kept k sent l e .serials))
-
--- a film that is created, with the UIDs of its boxes
-pub film-meant : (k : Core) (sent : List ℕ) (l : Listing) (c : List ℕ) (r : Request) → 1 ≤ k .numbers .serial → 1 ≤ boxCount (layoutIn l)
-    → meant k c r (withNewBoxes (filmCreated k sent l) (newFilm k sent l .name) (boxesIn (newFilm k sent l))) ≡ answered c r (createPlan k films sent l .done)
-unfolding meant createPlan newFilm filmWith boxUids
-film-meant k sent l c r h g = rw (new-shown k sent h, ne-eqb (boxCount (layoutIn l)) 0 (λ z. omega arith))
-
 -- What decides the plans.
 
 module _ (k : Core) (sent : List ℕ) (l : Listing) (c : List ℕ) (r : Request) (v : Verdict) where
-  -- other classes have no N-CREATE: nothing is done
-  pub nothing-decides : v ≡ quiet k noName → Decides k c r (nothing k) v
-  nothing-decides e = done-decides k c r (quietly k none) v (quiet k noName) e refl no-boxes-fit (quiet-meant k k c r noName none refl)
-
-  pub session-decides : (n : ℕ) → n ≡ firstBroken (newSessionRules k sent l) → n ≡ 0 → 1 ≤ k .numbers .serial → v ≡ quiet (sessionCreated k sent l) (nameFrom (k .numbers) sent) → Decides k c r (createPlan k sessions sent l) v
+  pub session-decides : (n : ℕ) → n ≡ firstBroken (newSessionRules k sent l) → n ≡ 0 → v ≡ quietly (sessionCreated k sent l) (nameFrom (k .numbers) sent) → v ≡ decidedBy k c r (createPlan k Sessions sent l)
   unfolding createPlan
-  session-decides n e z h f =
-      let done = createPlan k sessions sent l .done in
-      kept-decides c r (newSessionRules k sent l) (record { rules = []; done = done }) refl n e k v z
-      (done-decides k c r done v (quiet (sessionCreated k sent l) (nameFrom (k .numbers) sent)) f refl no-boxes-fit (quiet-meant k (sessionCreated k sent l) c r (nameFrom (k .numbers) sent) (some (newUid k sent)) (new-shown k sent h)))
+  session-decides n e z f = kept-decides k c r (newSessionRules k sent l) (record { rules = []; verdict = createPlan k Sessions sent l .verdict }) refl n e v z f
 
-  module _ (after : Core) (film : Film) (boxes : NewBoxes) (serials : ℕ) (f : film ≡ newFilm k sent l) (s : serials ≡ filmSerials sent l) where
-    verdict-on : v ≡ withNewBoxes after (film .name) boxes → boxes ≡ boxesIn film → after ≡ withFilms (filmsOf (k .shelf) ++ (film ∷ [])) (withNumbers (serialsUsed serials (k .numbers)) k)
+  film-verdict : withNewBoxes (filmCreated k sent l) (newFilm k sent l .name) (boxesIn (newFilm k sent l)) ≡ createPlan k Films sent l .verdict
+  unfolding createPlan newFilm filmWith
+  film-verdict = refl
+
+  module _ (after : Core) (film : Film) (contents : Contents) (serials : ℕ) (f : film ≡ newFilm k sent l) (s : serials ≡ filmSerials sent l) where
+    verdict-on : v ≡ withNewBoxes after (film .name) contents → contents ≡ boxesIn film → after ≡ withFilms (filmsOf (k .shelf) ++ (film ∷ [])) (withNumbers (serialsUsed serials (k .numbers)) k)
         → v ≡ withNewBoxes (filmCreated k sent l) (newFilm k sent l .name) (boxesIn (newFilm k sent l))
     unfolding filmCreated
     verdict-on e b a = e ∙ rw (b, a, s, f)
 
-    pub film-decides : (n : ℕ) → n ≡ firstBroken (newFilmRules k sent l) → n ≡ 0 → 1 ≤ k .numbers .serial → v ≡ withNewBoxes after (film .name) boxes → boxes ≡ boxesIn film → after ≡ withFilms (filmsOf (k .shelf) ++ (film ∷ [])) (withNumbers (serialsUsed serials (k .numbers)) k)
-        → Decides k c r (createPlan k films sent l) v
+    pub film-decides : (n : ℕ) → n ≡ firstBroken (newFilmRules k sent l) → n ≡ 0 → v ≡ withNewBoxes after (film .name) contents → contents ≡ boxesIn film → after ≡ withFilms (filmsOf (k .shelf) ++ (film ∷ [])) (withNumbers (serialsUsed serials (k .numbers)) k)
+        → v ≡ decidedBy k c r (createPlan k Films sent l)
     unfolding createPlan
-    film-decides n e z h g b a =
-        let done = createPlan k films sent l .done in
-        kept-decides c r (newFilmRules k sent l) (record { rules = []; done = done }) refl n e k v z
-        (done-decides k c r done v (withNewBoxes (filmCreated k sent l) (newFilm k sent l .name) (boxesIn (newFilm k sent l))) (verdict-on g b a) refl (new-boxes-fit k sent l (sym e ∙ z)) (film-meant k sent l c r h (film-kept k sent l (sym e ∙ z) .some)))
-
--- the plan by the class and the UID that the command has
-pub plan-decides : (k : Core) (c : List ℕ) (r : Request) (l : Listing) (v : Verdict) (x y : Class) (u w : List ℕ) → x ≡ y → u ≡ w → Decides k c r (createPlan k x u l) v → Decides k c r (createPlan k y w l) v
-plan-decides k c r l v x y u w e f d =
-    subst (λ (z : Class). Decides k c r (createPlan k z w l) v) e (subst (λ (z : List ℕ). Decides k c r (createPlan k x z l) v) f d)
+    film-decides n e z g b a =
+        kept-decides k c r (newFilmRules k sent l) (record { rules = []; verdict = createPlan k Films sent l .verdict }) refl n e v z (verdict-on g b a ∙ film-verdict)

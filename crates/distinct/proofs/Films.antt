@@ -2,7 +2,7 @@
 -- Assumes nothing.
 use mathlib.Core.Path.{_≡_, refl}
 use mathlib.Core.Bool.{Bool, true, false}
-use mathlib.Core.List.{List}
+use mathlib.Core.List.{List, _∷_, map}
 use Rattle.choice.specs.Pick.{both, not}
 use Rattle.choice.proofs.Picks.{both-assoc}
 use Rattle.rules.specs.declared.Name.{Name}
@@ -53,7 +53,15 @@ films-differ name = record {
       (shuffle (freeOfFilm (ownSerial name) f) (filmApart f films) (not (sameText (sentText name) (filmText f))) (textFree (f .name) films) (serialsFree (ownSerial name) films) (serialsApart films) (textFree name films) (textsApart films));
 }
 
+first-serials : (s : Serials) (films : List Film) → apart overlap (s ∷ serialsOf films) ≡ both (serialsFree s films) (serialsApart films)
+unfolding apart serialsFree serialsApart
+first-serials s films = refl
+
+first-text : (name : Name) (films : List Film) → apart sameText (sentText name ∷ map filmText films) ≡ both (textFree name films) (textsApart films)
+unfolding apart textFree textsApart
+first-text name films = refl
+
 -- "UIDs differ": the session's own from the films', and the films' from one another
 pub uids-apart : (s : Session) (films : List Film) → uidsApart s films ≡ filmsDiffer (s .name) films
-unfolding filmsDiffer uidsApart serialsFree serialsApart textFree textsApart apart
-uids-apart s films = refl
+unfolding uidsApart filmsDiffer
+uids-apart s films = rw (first-serials (ownSerial (s .name)) films, first-text (s .name) films)

@@ -1,6 +1,5 @@
 // Distinct: "UIDs differ", made ones by their serials, sent ones by their characters.
 use rules::Film;
-use rules::Layout;
 use rules::Name;
 use rules::Session;
 use rules::Shelf;
@@ -9,41 +8,9 @@ ghost use Prim.Native.Nat.{_<_, _≤_};
 ghost use lib.Dec.{eqb};
 ghost use lib.ListN.{length, take, drop};
 ghost use Rattle.choice.specs.Pick.{pick};
-ghost use Rattle.rules.specs.Lists.{sum};
-ghost use Rattle.rules.specs.Records.{boxCount, filmsOf};
+ghost use Rattle.rules.specs.Records.{filmsOf};
 ghost use Rattle.rules.specs.Sound.{overlap, sentText, sameText, uidsApart};
 ghost use Rattle.distinct.specs.Apart.{serials, freeOfFilm, serialsFree, filmApart, textFree, filmDiffers, filmsDiffer};
-
-fn wide(b: u8) -> u64
-    ensures { λ r. ⌜ (r ≡ b) × (r < 256) ⌝ }
-{
-    b as u64
-}
-
-// The sum of the first n.
-fn sum_of(a: [u8; 6], n: usize) -> u64
-    ensures { λ r. ⌜ (r ≡ sum (take n a)) × (r ≤ 1530) ⌝ }
-{
-    let xs = a;
-    let mut v: u64 = 0;
-    let mut i = 0;
-    while i < 6 {
-        if n <= i {
-            return v;
-        }
-        v = v + wide(xs[i]);
-        i += 1;
-    }
-    v
-}
-
-// How many boxes a film of this layout has.
-pub fn box_count(l: Layout) -> u64
-    ensures { λ r. ⌜ (r ≡ boxCount l) × (r ≤ 1530) ⌝ }
-{
-    let counts = l.counts;
-    sum_of(counts, l.lines as usize)
-}
 
 // How many of the first n bytes there are.
 pub fn within(s: &[u8], n: usize) -> usize
@@ -93,7 +60,7 @@ fn free_of_film(first: u64, count: u64, film: Film) -> bool
     }
     let start = film.first;
     let layout = film.layout;
-    if overlapping(first, count, start.0 as u64, box_count(layout)) {
+    if overlapping(first, count, start.0 as u64, layouts::box_count(layout)) {
         return false;
     }
     true
@@ -139,7 +106,7 @@ fn film_serials_apart(film: Film, films: [Film; 8], from: usize, n: usize) -> bo
     let start = film.first;
     let first = start.0 as u64;
     let layout = film.layout;
-    let count = box_count(layout);
+    let count = layouts::box_count(layout);
     if overlapping(own, owned, first, count) {
         return false;
     }

@@ -1,10 +1,10 @@
 -- The grammar's walks go on at each step, so each unrolls.
 -- Assumes nothing.
 use mathlib.Core.Path.{_≡_, refl}
-use mathlib.Core.Bool.{Bool}
 use mathlib.Core.List.{List}
 use Prim.Native.Nat.{ℕ, zero, suc, _+_, _-_, _≤_}
 use native.Mathlib.Omega.{arith}
+use Rattle.headers.specs.declared.Syntax.{Syntax}
 use Rattle.headers.specs.declared.Inside.{Inside}
 use Rattle.headers.specs.declared.Head.{Head}
 use Rattle.headers.specs.declared.Head.the-variants.{Fault, Value, Nest}
@@ -86,10 +86,10 @@ module _ (element : Elem) (good : ElemIn element) (s : List ℕ) where
   pub items-of-in : (inside : Inside) (at : ℕ) → at ≤ inside .stop → AllIn (λ x. x) at (inside .stop) (trail (itemStep element s inside) (suc (inside .stop - at)) at)
   items-of-in inside at h = trail-in (λ x. x) (inside .stop) (itemStep element s inside) (item-step-in inside) (suc (inside .stop - at)) at h
 
-pub element-in : (s : List ℕ) (explicit : Bool) (room : ℕ) → ElemIn (elementAt s explicit room)
+pub element-in : (s : List ℕ) (syntax : Syntax) (room : ℕ) → ElemIn (elementAt s syntax room)
 unfolding elementAt ElemIn
-element-in s explicit zero end at floor h = behind-in _ (at + 8) end (headAt s explicit end at floor) (λ inside g. tt) (head-in s explicit end at floor h)
-element-in s explicit (suc room) end at floor h =
-    behind-in _ (at + 8) end (headAt s explicit end at floor)
-    (λ inside g. items-in (elementAt s explicit room) (element-in s explicit room) s inside (inside .from) g)
-    (head-in s explicit end at floor h)
+element-in s syntax zero end at floor h = behind-in _ (at + 8) end (headAt s syntax end at floor) (λ inside g. tt) (head-in s syntax end at floor h)
+element-in s syntax (suc room) end at floor h =
+    behind-in _ (at + 8) end (headAt s syntax end at floor)
+    (λ inside g. items-in (elementAt s syntax room) (element-in s syntax room) s inside (inside .from) g)
+    (head-in s syntax end at floor h)

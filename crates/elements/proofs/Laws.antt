@@ -1,7 +1,6 @@
 -- What each way through the readers gives, one law each, and that what is found lies within.
 -- Assumes nothing.
-use mathlib.Core.Path.{_≡_, refl, subst, _∙_}
-use mathlib.Core.Bool.{Bool}
+use mathlib.Core.Path.{_≡_, refl, sym, ap, subst, _∙_}
 use mathlib.Core.List.{List, [], _∷_}
 use Prim.Native.Nat.{ℕ, zero, suc, _+_, _-_, _≤_, _<_}
 use native.Mathlib.Numerals.{sub-one}
@@ -10,8 +9,10 @@ use lib.Dec.{eqb}
 use lib.ListN.{length}
 use borrow.Author.Tests.{eq-eqb, ne-eqb, ltb-false}
 use Rattle.choice.proofs.Picks.{pick-cases, first-cases}
+use Rattle.headers.specs.declared.Syntax.{Syntax}
 use Rattle.headers.specs.declared.Part.{Part}
 use Rattle.headers.specs.declared.Inside.{Inside}
+use Rattle.headers.specs.declared.Scope.{Scope}
 use Rattle.headers.specs.declared.Head.{Head}
 use Rattle.headers.specs.declared.Head.the-variants.{Fault, Value, Nest}
 use Rattle.headers.specs.declared.Close.{Close}
@@ -20,10 +21,11 @@ use Rattle.headers.specs.Header.{tagAt, elementRules, headAt, itemHeadAt, close
 use Rattle.headers.proofs.Within.{Fits, HeadIn, head-in, item-head-in}
 use Rattle.elements.specs.declared.Read.{Read}
 use Rattle.elements.specs.declared.Read.the-variants.{Past, Refused}
+use Rattle.elements.specs.declared.Found.{Found}
 use Rattle.elements.specs.declared.Found.the-variants.{Missing}
 use Rattle.elements.specs.declared.Items.the-variants.{Empty, Several}
 use Rattle.elements.specs.Walk.{Next, again, done, follow, onward, onTrail, trail}
-use Rattle.elements.specs.Reader.{itemEnd, sequenceEnd, behind, orElse, Mark, start, listStep, listFrom, itemWith, itemStep, itemsFrom, elementAt, listAt, itemAt}
+use Rattle.elements.specs.Reader.{itemEnd, sequenceEnd, behind, orElse, Mark, start, listStep, listFrom, itemWith, itemStep, itemsFrom, elementAt, scopeOf, elementIn, listAt, itemAt, dataScope}
 use Rattle.elements.specs.Find.{elementsFrom, itemsOf, found, among, findAt, only, counted, itemsAt}
 use Rattle.elements.proofs.Within.{ReadIn, AllIn, FoundIn, ItemsIn}
 use Rattle.elements.proofs.Grammar.{place, ElemIn, element-in, item-in, list-unroll, items-unroll, elements-unroll, items-of-unroll, elements-in, items-of-in}
@@ -33,176 +35,177 @@ mark at floor = record { at = at; floor = floor }
 
 -- One header.
 
-module _ (s : List ℕ) (explicit : Bool) (end at floor : ℕ) (h : at ≤ end) where
-  pub head-nest : {inside : Inside} → headAt s explicit end at floor ≡ Nest inside → Fits (at + 8) (inside .from) (inside .stop) end
-  head-nest e = subst (HeadIn (at + 8) end) e (head-in s explicit end at floor h)
+module _ (s : List ℕ) (syntax : Syntax) (end at floor : ℕ) (h : at ≤ end) where
+  pub head-nest : {inside : Inside} → headAt s syntax end at floor ≡ Nest inside → Fits (at + 8) (inside .from) (inside .stop) end
+  head-nest e = subst (HeadIn (at + 8) end) e (head-in s syntax end at floor h)
 
-  pub element-past : (room : ℕ) {q : ℕ} → elementAt s explicit room end at floor ≡ Past q → (at + 8 ≤ q) × (q ≤ end)
+  pub element-past : (room : ℕ) {q : ℕ} → elementAt s syntax room end at floor ≡ Past q → (at + 8 ≤ q) × (q ≤ end)
   unfolding ElemIn
-  element-past room e = subst (ReadIn (at + 8) end) e (element-in s explicit room end at floor h)
+  element-past room e = subst (ReadIn (at + 8) end) e (element-in s syntax room end at floor h)
 
 module _ (s : List ℕ) (end at : ℕ) (h : at ≤ end) where
   pub item-head-nest : {inside : Inside} → itemHeadAt s end at ≡ Nest inside → Fits (at + 8) (inside .from) (inside .stop) end
   item-head-nest e = subst (HeadIn (at + 8) end) e (item-head-in s end at h)
 
-  pub item-past : (explicit : Bool) (room : ℕ) {q : ℕ} → itemAt s explicit room end at ≡ Past q → (at + 8 ≤ q) × (q ≤ end)
+  pub item-past : (syntax : Syntax) (room : ℕ) {q : ℕ} → itemAt s syntax room end at ≡ Past q → (at + 8 ≤ q) × (q ≤ end)
   unfolding itemAt
-  item-past explicit room e = subst (ReadIn (at + 8) end) e (item-in (elementAt s explicit room) (element-in s explicit room) s end at h)
+  item-past syntax room e = subst (ReadIn (at + 8) end) e (item-in (elementAt s syntax room) (element-in s syntax room) s end at h)
 
 -- One element.
 
-pub element-fault : (s : List ℕ) (explicit : Bool) (room end at floor : ℕ) {n : ℕ} → headAt s explicit end at floor ≡ Fault n → elementAt s explicit room end at floor ≡ Refused n
+pub element-fault : (s : List ℕ) (syntax : Syntax) (room end at floor : ℕ) {n : ℕ} → headAt s syntax end at floor ≡ Fault n → elementAt s syntax room end at floor ≡ Refused n
 unfolding elementAt
-element-fault s explicit zero end at floor e = rw e
-element-fault s explicit (suc room) end at floor e = rw e
+element-fault s syntax zero end at floor e = rw e
+element-fault s syntax (suc room) end at floor e = rw e
 
-pub element-value : (s : List ℕ) (explicit : Bool) (room end at floor : ℕ) {part : Part} → headAt s explicit end at floor ≡ Value part → elementAt s explicit room end at floor ≡ Past (part .stop)
+pub element-value : (s : List ℕ) (syntax : Syntax) (room end at floor : ℕ) {part : Part} → headAt s syntax end at floor ≡ Value part → elementAt s syntax room end at floor ≡ Past (part .stop)
 unfolding elementAt
-element-value s explicit zero end at floor e = rw e
-element-value s explicit (suc room) end at floor e = rw e
+element-value s syntax zero end at floor e = rw e
+element-value s syntax (suc room) end at floor e = rw e
 
-pub element-full : (s : List ℕ) (explicit : Bool) (room end at floor : ℕ) {inside : Inside} → room ≡ 0 → headAt s explicit end at floor ≡ Nest inside → elementAt s explicit room end at floor ≡ Refused 7
+pub element-full : (s : List ℕ) (syntax : Syntax) (room end at floor : ℕ) {inside : Inside} → room ≡ 0 → headAt s syntax end at floor ≡ Nest inside → elementAt s syntax room end at floor ≡ Refused 7
 unfolding elementAt
-element-full s explicit zero end at floor z e = rw e
-element-full s explicit (suc room) end at floor z e = absurd (omega arith)
+element-full s syntax zero end at floor z e = rw e
+element-full s syntax (suc room) end at floor z e = absurd (omega arith)
 
-pub element-nest : (s : List ℕ) (explicit : Bool) (room end at floor : ℕ) {inside : Inside} → (room ≡ 0 → ⊥) → headAt s explicit end at floor ≡ Nest inside → elementAt s explicit room end at floor ≡ itemsFrom (elementAt s explicit (room - 1)) s inside (inside .from)
+pub element-nest : (s : List ℕ) (syntax : Syntax) (room end at floor : ℕ) {inside : Inside} → (room ≡ 0 → ⊥) → headAt s syntax end at floor ≡ Nest inside → elementAt s syntax room end at floor ≡ itemsFrom (elementAt s syntax (room - 1)) s inside (inside .from)
 unfolding elementAt
-element-nest s explicit zero end at floor z e = absurd (z refl)
-element-nest s explicit (suc room) end at floor z e = rw (e, sub-one (suc room))
+element-nest s syntax zero end at floor z e = absurd (z refl)
+element-nest s syntax (suc room) end at floor z e = rw (e, sub-one (suc room))
 
 -- an element that is read has no tag below the floor
 abbrev AboveFloor : ℕ → ℕ → Read → Type 0
 AboveFloor floor tag r = (q : ℕ) → r ≡ Past q → floor ≤ tag
 
-behind-above : (s : List ℕ) (explicit : Bool) (end at floor : ℕ) (held : Inside → Read) → AboveFloor floor (tagAt s at) (behind held (headAt s explicit end at floor))
+behind-above : (s : List ℕ) (syntax : Syntax) (end at floor : ℕ) (held : Inside → Read) → AboveFloor floor (tagAt s at) (behind held (headAt s syntax end at floor))
 unfolding headAt
-behind-above s explicit end at floor held =
-    first-cases (λ d. AboveFloor floor (tagAt s at) (behind held d)) Fault (elementRules s explicit end at floor) _
+behind-above s syntax end at floor held =
+    first-cases (λ d. AboveFloor floor (tagAt s at) (behind held d)) Fault (elementRules s syntax end at floor) _
     (λ n q e. let z : _≡_ {A = ℕ} 0 1 = cc in absurd (omega arith))
     (λ k q e. ltb-false (tagAt s at) floor (k .1 .1 .0))
 
-pub element-above : (s : List ℕ) (explicit : Bool) (room end at floor : ℕ) → AboveFloor floor (tagAt s at) (elementAt s explicit room end at floor)
+pub element-above : (s : List ℕ) (syntax : Syntax) (room end at floor : ℕ) → AboveFloor floor (tagAt s at) (elementAt s syntax room end at floor)
 unfolding elementAt
-element-above s explicit zero end at floor = behind-above s explicit end at floor _
-element-above s explicit (suc room) end at floor = behind-above s explicit end at floor _
+element-above s syntax zero end at floor = behind-above s syntax end at floor _
+element-above s syntax (suc room) end at floor = behind-above s syntax end at floor _
 
 -- One item.
 
-module _ (s : List ℕ) (explicit : Bool) (room end at : ℕ) where
-  pub item-fault : {n : ℕ} → itemHeadAt s end at ≡ Fault n → itemAt s explicit room end at ≡ Refused n
+module _ (s : List ℕ) (syntax : Syntax) (room end at : ℕ) where
+  pub item-fault : {n : ℕ} → itemHeadAt s end at ≡ Fault n → itemAt s syntax room end at ≡ Refused n
   unfolding itemAt itemWith
   item-fault e = rw e
 
-  pub item-value : {part : Part} → itemHeadAt s end at ≡ Value part → itemAt s explicit room end at ≡ Past (part .stop)
+  pub item-value : {part : Part} → itemHeadAt s end at ≡ Value part → itemAt s syntax room end at ≡ Past (part .stop)
   unfolding itemAt itemWith
   item-value e = rw e
 
-  pub item-nest : {inside : Inside} → itemHeadAt s end at ≡ Nest inside → itemAt s explicit room end at ≡ listAt s explicit room inside
+  pub item-nest : {inside : Inside} → itemHeadAt s end at ≡ Nest inside → itemAt s syntax room end at ≡ listAt s (scopeOf syntax room inside)
   unfolding itemAt itemWith listAt
   item-nest e = rw e
 
 -- No tag below the floor is found any more.
 
-module _ (s : List ℕ) (explicit : Bool) (end tag : ℕ) where
-  on-trail-below : (m : Mark) (rest : Mark → List Mark) (k : Close) (r : Read) → tag < m .floor → ((y : Mark) → tag < y .floor → among s explicit end tag (rest y) ≡ Missing) → AboveFloor (m .floor) (tagAt s (m .at)) r → among s explicit end tag (onTrail m rest (orElse k (onward r (λ q. mark q (tagAt s (m .at) + 1))))) ≡ Missing
+module _ (s : List ℕ) (scope : Scope) (tag : ℕ) where
+  on-trail-below : (m : Mark) (rest : Mark → List Mark) (k : Close) (r : Read) → tag < m .floor → ((y : Mark) → tag < y .floor → among s (scope .syntax) (scope .inside .stop) tag (rest y) ≡ Missing) → AboveFloor (m .floor) (tagAt s (m .at)) r → among s (scope .syntax) (scope .inside .stop) tag (onTrail m rest (orElse k (onward r (λ q. mark q (tagAt s (m .at) + 1))))) ≡ Missing
   on-trail-below m rest (Here q) r h f g = refl
   on-trail-below m rest Not (Past q) h f g = let t = g q refl in rw (ne-eqb (tagAt s (m .at)) tag (λ e. omega arith)) (f (mark q (tagAt s (m .at) + 1)) (omega arith))
   on-trail-below m rest Not (Refused n) h f g = refl
 
-  trail-below : (room : ℕ) (inside : Inside) (fuel : ℕ) (m : Mark) → tag < m .floor → among s explicit end tag (trail (listStep (elementAt s explicit room) s inside) fuel m) ≡ Missing
+  trail-below : (fuel : ℕ) (m : Mark) → tag < m .floor → among s (scope .syntax) (scope .inside .stop) tag (trail (listStep (elementIn s scope) s (scope .inside)) fuel m) ≡ Missing
   unfolding trail listStep
-  trail-below room inside zero m h = refl
-  trail-below room inside (suc fuel) m h =
-      on-trail-below m _ (closeAt s itemEnd inside (m .at)) (elementAt s explicit room (inside .stop) (m .at) (m .floor)) h
-      (λ y g. trail-below room inside fuel y g) (element-above s explicit room (inside .stop) (m .at) (m .floor))
+  trail-below zero m h = refl
+  trail-below (suc fuel) m h =
+      on-trail-below m _ (closeAt s itemEnd (scope .inside) (m .at)) (elementIn s scope (scope .inside .stop) (m .at) (m .floor)) h
+      (λ y g. trail-below fuel y g) (element-above s (scope .syntax) (scope .room) (scope .inside .stop) (m .at) (m .floor))
 
-  pub find-below : (room : ℕ) (inside : Inside) (m : Mark) → tag < m .floor → among s explicit end tag (elementsFrom s explicit room inside m) ≡ Missing
+  pub find-below : (m : Mark) → tag < m .floor → among s (scope .syntax) (scope .inside .stop) tag (elementsFrom s scope m) ≡ Missing
   unfolding elementsFrom
-  find-below room inside m h = trail-below room inside (suc (inside .stop - m .at)) m h
+  find-below m h = trail-below (suc (scope .inside .stop - m .at)) m h
 
 -- One step of each walk.
 
-module _ (s : List ℕ) (explicit : Bool) (room : ℕ) (inside : Inside) (at : ℕ) (h : at ≤ inside .stop) where
-  items-on : itemsFrom (elementAt s explicit room) s inside at ≡ follow (λ y. itemsFrom (elementAt s explicit room) s inside y) (orElse (closeAt s sequenceEnd inside at) (onward (itemAt s explicit room (inside .stop) at) (λ q. q)))
+module _ (s : List ℕ) (syntax : Syntax) (room : ℕ) (inside : Inside) (at : ℕ) (h : at ≤ inside .stop) where
+  items-on : itemsFrom (elementAt s syntax room) s inside at ≡ follow (λ y. itemsFrom (elementAt s syntax room) s inside y) (orElse (closeAt s sequenceEnd inside at) (onward (itemAt s syntax room (inside .stop) at) (λ q. q)))
   unfolding itemStep itemAt
-  items-on = items-unroll (elementAt s explicit room) (element-in s explicit room) s inside at h
+  items-on = items-unroll (elementAt s syntax room) (element-in s syntax room) s inside at h
 
-  pub items-done : {q : ℕ} → closeAt s sequenceEnd inside at ≡ Here q → itemsFrom (elementAt s explicit room) s inside at ≡ Past q
+  pub items-done : {q : ℕ} → closeAt s sequenceEnd inside at ≡ Here q → itemsFrom (elementAt s syntax room) s inside at ≡ Past q
   items-done k = items-on ∙ rw k
 
-  pub items-refused : {n : ℕ} → closeAt s sequenceEnd inside at ≡ Not → itemAt s explicit room (inside .stop) at ≡ Refused n → itemsFrom (elementAt s explicit room) s inside at ≡ Refused n
+  pub items-refused : {n : ℕ} → closeAt s sequenceEnd inside at ≡ Not → itemAt s syntax room (inside .stop) at ≡ Refused n → itemsFrom (elementAt s syntax room) s inside at ≡ Refused n
   items-refused k e = items-on ∙ rw (k, e)
 
-  pub items-more : {q : ℕ} → closeAt s sequenceEnd inside at ≡ Not → itemAt s explicit room (inside .stop) at ≡ Past q → itemsFrom (elementAt s explicit room) s inside at ≡ itemsFrom (elementAt s explicit room) s inside q
+  pub items-more : {q : ℕ} → closeAt s sequenceEnd inside at ≡ Not → itemAt s syntax room (inside .stop) at ≡ Past q → itemsFrom (elementAt s syntax room) s inside at ≡ itemsFrom (elementAt s syntax room) s inside q
   items-more k e = items-on ∙ rw (k, e)
 
-  items-of-on : itemsOf s explicit room inside at ≡ onTrail at (λ y. itemsOf s explicit room inside y) (orElse (closeAt s sequenceEnd inside at) (onward (itemAt s explicit room (inside .stop) at) (λ q. q)))
-  unfolding itemStep itemAt itemsOf
-  items-of-on = items-of-unroll (elementAt s explicit room) (element-in s explicit room) s inside at h
+  module _ (floor : ℕ) where
+    list-on : listFrom (elementAt s syntax room) s inside (mark at floor) ≡ follow (λ y. listFrom (elementAt s syntax room) s inside y) (orElse (closeAt s itemEnd inside at) (onward (elementAt s syntax room (inside .stop) at floor) (λ q. mark q (tagAt s at + 1))))
+    unfolding listStep
+    list-on = list-unroll (elementAt s syntax room) (element-in s syntax room) s inside (mark at floor) h
 
-  pub items-of-done : {q : ℕ} → closeAt s sequenceEnd inside at ≡ Here q → itemsOf s explicit room inside at ≡ []
+    pub list-done : {q : ℕ} → closeAt s itemEnd inside at ≡ Here q → listFrom (elementAt s syntax room) s inside (mark at floor) ≡ Past q
+    list-done k = list-on ∙ rw k
+
+    pub list-refused : {n : ℕ} → closeAt s itemEnd inside at ≡ Not → elementAt s syntax room (inside .stop) at floor ≡ Refused n → listFrom (elementAt s syntax room) s inside (mark at floor) ≡ Refused n
+    list-refused k e = list-on ∙ rw (k, e)
+
+    pub list-more : {q : ℕ} → closeAt s itemEnd inside at ≡ Not → elementAt s syntax room (inside .stop) at floor ≡ Past q → listFrom (elementAt s syntax room) s inside (mark at floor) ≡ listFrom (elementAt s syntax room) s inside (mark q (tagAt s at + 1))
+    list-more k e = list-on ∙ rw (k, e)
+
+-- One step of each trail.
+
+module _ (s : List ℕ) (scope : Scope) (at : ℕ) (h : at ≤ scope .inside .stop) where
+  items-of-on : itemsOf s scope at ≡ onTrail at (λ y. itemsOf s scope y) (orElse (closeAt s sequenceEnd (scope .inside) at) (onward (itemAt s (scope .syntax) (scope .room) (scope .inside .stop) at) (λ q. q)))
+  unfolding itemStep itemAt itemsOf
+  items-of-on = items-of-unroll (elementIn s scope) (element-in s (scope .syntax) (scope .room)) s (scope .inside) at h
+
+  pub items-of-done : {q : ℕ} → closeAt s sequenceEnd (scope .inside) at ≡ Here q → itemsOf s scope at ≡ []
   items-of-done k = items-of-on ∙ rw k
 
-  pub items-of-refused : {n : ℕ} → closeAt s sequenceEnd inside at ≡ Not → itemAt s explicit room (inside .stop) at ≡ Refused n → itemsOf s explicit room inside at ≡ []
+  pub items-of-refused : {n : ℕ} → closeAt s sequenceEnd (scope .inside) at ≡ Not → itemAt s (scope .syntax) (scope .room) (scope .inside .stop) at ≡ Refused n → itemsOf s scope at ≡ []
   items-of-refused k e = items-of-on ∙ rw (k, e)
 
-  pub items-of-more : {q : ℕ} → closeAt s sequenceEnd inside at ≡ Not → itemAt s explicit room (inside .stop) at ≡ Past q → itemsOf s explicit room inside at ≡ at ∷ itemsOf s explicit room inside q
+  pub items-of-more : {q : ℕ} → closeAt s sequenceEnd (scope .inside) at ≡ Not → itemAt s (scope .syntax) (scope .room) (scope .inside .stop) at ≡ Past q → itemsOf s scope at ≡ at ∷ itemsOf s scope q
   items-of-more k e = items-of-on ∙ rw (k, e)
 
   module _ (floor : ℕ) where
-    list-on : listFrom (elementAt s explicit room) s inside (mark at floor) ≡ follow (λ y. listFrom (elementAt s explicit room) s inside y) (orElse (closeAt s itemEnd inside at) (onward (elementAt s explicit room (inside .stop) at floor) (λ q. mark q (tagAt s at + 1))))
-    unfolding listStep
-    list-on = list-unroll (elementAt s explicit room) (element-in s explicit room) s inside (mark at floor) h
-
-    pub list-done : {q : ℕ} → closeAt s itemEnd inside at ≡ Here q → listFrom (elementAt s explicit room) s inside (mark at floor) ≡ Past q
-    list-done k = list-on ∙ rw k
-
-    pub list-refused : {n : ℕ} → closeAt s itemEnd inside at ≡ Not → elementAt s explicit room (inside .stop) at floor ≡ Refused n → listFrom (elementAt s explicit room) s inside (mark at floor) ≡ Refused n
-    list-refused k e = list-on ∙ rw (k, e)
-
-    pub list-more : {q : ℕ} → closeAt s itemEnd inside at ≡ Not → elementAt s explicit room (inside .stop) at floor ≡ Past q → listFrom (elementAt s explicit room) s inside (mark at floor) ≡ listFrom (elementAt s explicit room) s inside (mark q (tagAt s at + 1))
-    list-more k e = list-on ∙ rw (k, e)
-
-    elements-on : elementsFrom s explicit room inside (mark at floor) ≡ onTrail (mark at floor) (λ y. elementsFrom s explicit room inside y) (orElse (closeAt s itemEnd inside at) (onward (elementAt s explicit room (inside .stop) at floor) (λ q. mark q (tagAt s at + 1))))
+    elements-on : elementsFrom s scope (mark at floor) ≡ onTrail (mark at floor) (λ y. elementsFrom s scope y) (orElse (closeAt s itemEnd (scope .inside) at) (onward (elementIn s scope (scope .inside .stop) at floor) (λ q. mark q (tagAt s at + 1))))
     unfolding listStep elementsFrom
-    elements-on = elements-unroll (elementAt s explicit room) (element-in s explicit room) s inside (mark at floor) h
+    elements-on = elements-unroll (elementIn s scope) (element-in s (scope .syntax) (scope .room)) s (scope .inside) (mark at floor) h
 
-    pub elements-done : {q : ℕ} → closeAt s itemEnd inside at ≡ Here q → elementsFrom s explicit room inside (mark at floor) ≡ []
+    pub elements-done : {q : ℕ} → closeAt s itemEnd (scope .inside) at ≡ Here q → elementsFrom s scope (mark at floor) ≡ []
     elements-done k = elements-on ∙ rw k
 
-    pub elements-refused : {n : ℕ} → closeAt s itemEnd inside at ≡ Not → elementAt s explicit room (inside .stop) at floor ≡ Refused n → elementsFrom s explicit room inside (mark at floor) ≡ []
-    elements-refused k e = elements-on ∙ rw (k, e)
-
-    pub elements-more : {q : ℕ} → closeAt s itemEnd inside at ≡ Not → elementAt s explicit room (inside .stop) at floor ≡ Past q → elementsFrom s explicit room inside (mark at floor) ≡ mark at floor ∷ elementsFrom s explicit room inside (mark q (tagAt s at + 1))
+    pub elements-more : {q : ℕ} → closeAt s itemEnd (scope .inside) at ≡ Not → elementIn s scope (scope .inside .stop) at floor ≡ Past q → elementsFrom s scope (mark at floor) ≡ mark at floor ∷ elementsFrom s scope (mark q (tagAt s at + 1))
     elements-more k e = elements-on ∙ rw (k, e)
 
     module _ (tag : ℕ) where
-      pub find-done : {q : ℕ} → closeAt s itemEnd inside at ≡ Here q → among s explicit (inside .stop) tag (elementsFrom s explicit room inside (mark at floor)) ≡ Missing
+      pub find-done : {q : ℕ} → closeAt s itemEnd (scope .inside) at ≡ Here q → among s (scope .syntax) (scope .inside .stop) tag (elementsFrom s scope (mark at floor)) ≡ Missing
       find-done k = rw (elements-on, k)
 
-      pub find-refused : {n : ℕ} → closeAt s itemEnd inside at ≡ Not → elementAt s explicit room (inside .stop) at floor ≡ Refused n → among s explicit (inside .stop) tag (elementsFrom s explicit room inside (mark at floor)) ≡ Missing
+      pub find-refused : {n : ℕ} → closeAt s itemEnd (scope .inside) at ≡ Not → elementIn s scope (scope .inside .stop) at floor ≡ Refused n → among s (scope .syntax) (scope .inside .stop) tag (elementsFrom s scope (mark at floor)) ≡ Missing
       find-refused k e = rw (elements-on, k, e)
 
-      pub find-here : {q : ℕ} → closeAt s itemEnd inside at ≡ Not → elementAt s explicit room (inside .stop) at floor ≡ Past q → tagAt s at ≡ tag → among s explicit (inside .stop) tag (elementsFrom s explicit room inside (mark at floor)) ≡ found (headAt s explicit (inside .stop) at floor)
+      pub find-here : {q : ℕ} → closeAt s itemEnd (scope .inside) at ≡ Not → elementIn s scope (scope .inside .stop) at floor ≡ Past q → tagAt s at ≡ tag → among s (scope .syntax) (scope .inside .stop) tag (elementsFrom s scope (mark at floor)) ≡ found (headAt s (scope .syntax) (scope .inside .stop) at floor)
       find-here k e t = rw (elements-on, k, e, eq-eqb _ _ t)
 
-      pub find-more : {q : ℕ} → closeAt s itemEnd inside at ≡ Not → elementAt s explicit room (inside .stop) at floor ≡ Past q → (tagAt s at ≡ tag → ⊥) → among s explicit (inside .stop) tag (elementsFrom s explicit room inside (mark at floor)) ≡ among s explicit (inside .stop) tag (elementsFrom s explicit room inside (mark q (tagAt s at + 1)))
+      pub find-more : {q : ℕ} → closeAt s itemEnd (scope .inside) at ≡ Not → elementIn s scope (scope .inside .stop) at floor ≡ Past q → (tagAt s at ≡ tag → ⊥) → among s (scope .syntax) (scope .inside .stop) tag (elementsFrom s scope (mark at floor)) ≡ among s (scope .syntax) (scope .inside .stop) tag (elementsFrom s scope (mark q (tagAt s at + 1)))
       find-more k e t = rw (elements-on, k, e, ne-eqb _ _ t)
 
       -- nothing is found here but in an element that is read
-      find-unread : closeAt s itemEnd inside at ≡ Not → ((q : ℕ) → elementAt s explicit room (inside .stop) at floor ≡ Past q → among s explicit (inside .stop) tag (elementsFrom s explicit room inside (mark at floor)) ≡ Missing) → among s explicit (inside .stop) tag (elementsFrom s explicit room inside (mark at floor)) ≡ Missing
-      find-unread k f = unread (elementAt s explicit room (inside .stop) at floor) refl
+      find-unread : closeAt s itemEnd (scope .inside) at ≡ Not → ((q : ℕ) → elementIn s scope (scope .inside .stop) at floor ≡ Past q → among s (scope .syntax) (scope .inside .stop) tag (elementsFrom s scope (mark at floor)) ≡ Missing) → among s (scope .syntax) (scope .inside .stop) tag (elementsFrom s scope (mark at floor)) ≡ Missing
+      find-unread k f = unread (elementIn s scope (scope .inside .stop) at floor) refl
         where
-          unread : (r : Read) → elementAt s explicit room (inside .stop) at floor ≡ r → among s explicit (inside .stop) tag (elementsFrom s explicit room inside (mark at floor)) ≡ Missing
+          unread : (r : Read) → elementIn s scope (scope .inside .stop) at floor ≡ r → among s (scope .syntax) (scope .inside .stop) tag (elementsFrom s scope (mark at floor)) ≡ Missing
           unread (Past q) e = f q e
           unread (Refused n) e = find-refused k e
 
-      pub find-short : closeAt s itemEnd inside at ≡ Not → inside .stop - at < 8 → among s explicit (inside .stop) tag (elementsFrom s explicit room inside (mark at floor)) ≡ Missing
-      find-short k l = find-unread k (λ q e. let b = element-past s explicit (inside .stop) at floor h room e in absurd (omega arith))
+      pub find-short : closeAt s itemEnd (scope .inside) at ≡ Not → scope .inside .stop - at < 8 → among s (scope .syntax) (scope .inside .stop) tag (elementsFrom s scope (mark at floor)) ≡ Missing
+      find-short k l = find-unread k (λ q e. let b = element-past s (scope .syntax) (scope .inside .stop) at floor h (scope .room) e in absurd (omega arith))
 
-      pub find-above : closeAt s itemEnd inside at ≡ Not → tag < tagAt s at → among s explicit (inside .stop) tag (elementsFrom s explicit room inside (mark at floor)) ≡ Missing
-      find-above k l = find-unread k (λ q e. find-more k e (λ t. omega arith) ∙ find-below s explicit (inside .stop) tag room inside (mark q (tagAt s at + 1)) (omega arith))
+      pub find-above : closeAt s itemEnd (scope .inside) at ≡ Not → tag < tagAt s at → among s (scope .syntax) (scope .inside .stop) tag (elementsFrom s scope (mark at floor)) ≡ Missing
+      find-above k l = find-unread k (λ q e. find-more k e (λ t. omega arith) ∙ find-below s scope tag (mark q (tagAt s at + 1)) (omega arith))
 
 -- The items, by how many there are.
 
@@ -223,24 +226,24 @@ first-of : (s : List ℕ) (end x : ℕ) (rest : ℕ → List ℕ) (n : Next ℕ)
 first-of s end x rest (again y) e = only-head s end x (rest y) e
 first-of s end x rest (done r) e = absurd (omega arith)
 
-module _ (s : List ℕ) (explicit : Bool) (room : ℕ) (inside : Inside) where
-  pub items-none : length (itemsOf s explicit room inside (inside .from)) ≡ 0 → itemsAt s explicit room inside ≡ Empty
+module _ (s : List ℕ) (scope : Scope) where
+  pub items-none : length (itemsOf s scope (scope .inside .from)) ≡ 0 → itemsAt s scope ≡ Empty
   unfolding itemsAt
-  items-none e = count-none s (inside .stop) (itemsOf s explicit room inside (inside .from)) e
+  items-none e = count-none s (scope .inside .stop) (itemsOf s scope (scope .inside .from)) e
 
   -- the only item is the first
-  pub items-one : inside .from ≤ inside .stop → length (itemsOf s explicit room inside (inside .from)) ≡ 1 → itemsAt s explicit room inside ≡ only (itemHeadAt s (inside .stop) (inside .from))
+  pub items-one : scope .inside .from ≤ scope .inside .stop → length (itemsOf s scope (scope .inside .from)) ≡ 1 → itemsAt s scope ≡ only (itemHeadAt s (scope .inside .stop) (scope .inside .from))
   unfolding itemsAt
   items-one h e =
-      let u = items-of-on s explicit room inside (inside .from) h in
+      let u = items-of-on s scope (scope .inside .from) h in
       rw u
-      (first-of s (inside .stop) (inside .from) (λ y. itemsOf s explicit room inside y)
-      (orElse (closeAt s sequenceEnd inside (inside .from)) (onward (itemAt s explicit room (inside .stop) (inside .from)) (λ q. q)))
+      (first-of s (scope .inside .stop) (scope .inside .from) (λ y. itemsOf s scope y)
+      (orElse (closeAt s sequenceEnd (scope .inside) (scope .inside .from)) (onward (itemAt s (scope .syntax) (scope .room) (scope .inside .stop) (scope .inside .from)) (λ q. q)))
       (rw u at e))
 
-  pub items-several : (n : ℕ) → n ≡ length (itemsOf s explicit room inside (inside .from)) → (n ≡ 0 → ⊥) → (n ≡ 1 → ⊥) → itemsAt s explicit room inside ≡ Several n
+  pub items-several : (n : ℕ) → n ≡ length (itemsOf s scope (scope .inside .from)) → (n ≡ 0 → ⊥) → (n ≡ 1 → ⊥) → itemsAt s scope ≡ Several n
   unfolding itemsAt
-  items-several n = count-several s (inside .stop) n (itemsOf s explicit room inside (inside .from))
+  items-several n = count-several s (scope .inside .stop) n (itemsOf s scope (scope .inside .from))
 
 -- What is found lies within the list.
 
@@ -254,17 +257,21 @@ lower-head low low′ end (Fault n) h g = tt
 lower-head low low′ end (Value part) h g = (omega arith, g .1)
 lower-head low low′ end (Nest inside) h g = (omega arith, g .1)
 
-among-in : (s : List ℕ) (explicit : Bool) (low end tag : ℕ) (ms : List Mark) → AllIn place low end ms → FoundIn (low + 8) end (among s explicit end tag ms)
-among-in s explicit low end tag [] h = tt
-among-in s explicit low end tag (m ∷ ms) h =
+among-in : (s : List ℕ) (syntax : Syntax) (low end tag : ℕ) (ms : List Mark) → AllIn place low end ms → FoundIn (low + 8) end (among s syntax end tag ms)
+among-in s syntax low end tag [] h = tt
+among-in s syntax low end tag (m ∷ ms) h =
     pick-cases (FoundIn (low + 8) end) (eqb (tagAt s (m .at)) tag) _ _
-    (λ _. found-in (low + 8) end (headAt s explicit end (m .at) (m .floor)) (lower-head (low + 8) (m .at + 8) end (headAt s explicit end (m .at) (m .floor)) (omega arith) (head-in s explicit end (m .at) (m .floor) (h .0 .1))))
-    (λ _. among-in s explicit low end tag ms (h .1))
+    (λ _. found-in (low + 8) end (headAt s syntax end (m .at) (m .floor)) (lower-head (low + 8) (m .at + 8) end (headAt s syntax end (m .at) (m .floor)) (omega arith) (head-in s syntax end (m .at) (m .floor) (h .0 .1))))
+    (λ _. among-in s syntax low end tag ms (h .1))
 
-pub find-within : (s : List ℕ) (explicit : Bool) (room : ℕ) (inside : Inside) (tag : ℕ) → inside .from ≤ inside .stop → FoundIn (inside .from + 8) (inside .stop) (findAt s explicit room inside tag)
+pub find-within : (s : List ℕ) (scope : Scope) (tag : ℕ) → scope .inside .from ≤ scope .inside .stop → FoundIn (scope .inside .from + 8) (scope .inside .stop) (findAt s scope tag)
 unfolding findAt elementsFrom
-find-within s explicit room inside tag h =
-    among-in s explicit (inside .from) (inside .stop) tag (elementsFrom s explicit room inside (start inside)) (elements-in (elementAt s explicit room) (element-in s explicit room) s inside (start inside) h)
+find-within s scope tag h =
+    among-in s (scope .syntax) (scope .inside .from) (scope .inside .stop) tag (elementsFrom s scope (start (scope .inside))) (elements-in (elementIn s scope) (element-in s (scope .syntax) (scope .room)) s (scope .inside) (start (scope .inside)) h)
+
+-- what was found in all of a data set
+pub found-whole : (s : List ℕ) (syntax : Syntax) (tag : ℕ) (scope : Scope) (f g : Found) → scope ≡ dataScope s syntax → f ≡ findAt s scope tag → f ≡ g → findAt s (dataScope s syntax) tag ≡ g
+found-whole s syntax tag scope f g e r h = ap (λ (x : Scope). findAt s x tag) (sym e) ∙ sym r ∙ h
 
 only-in : (low end : ℕ) (d : Head) → HeadIn low end d → ItemsIn low end (only d)
 only-in low end (Fault n) g = tt
@@ -276,7 +283,7 @@ counted-in s low end [] h = tt
 counted-in s low end (at ∷ []) h = only-in (low + 8) end (itemHeadAt s end at) (lower-head (low + 8) (at + 8) end (itemHeadAt s end at) (omega arith) (item-head-in s end at (h .0 .1)))
 counted-in s low end (at ∷ (next ∷ more)) h = tt
 
-pub items-within : (s : List ℕ) (explicit : Bool) (room : ℕ) (inside : Inside) → inside .from ≤ inside .stop → ItemsIn (inside .from + 8) (inside .stop) (itemsAt s explicit room inside)
+pub items-within : (s : List ℕ) (scope : Scope) → scope .inside .from ≤ scope .inside .stop → ItemsIn (scope .inside .from + 8) (scope .inside .stop) (itemsAt s scope)
 unfolding itemsAt itemsOf
-items-within s explicit room inside h =
-    counted-in s (inside .from) (inside .stop) (itemsOf s explicit room inside (inside .from)) (items-of-in (elementAt s explicit room) (element-in s explicit room) s inside (inside .from) h)
+items-within s scope h =
+    counted-in s (scope .inside .from) (scope .inside .stop) (itemsOf s scope (scope .inside .from)) (items-of-in (elementIn s scope) (element-in s (scope .syntax) (scope .room)) s (scope .inside) (scope .inside .from) h)

@@ -1,9 +1,11 @@
 -- Elements (PS3.5): the grammar. A list holds elements, a sequence element holds items, an item holds a list.
 use Prim.Native.Nat.{ℕ, zero, suc, _+_, _-_}
-use mathlib.Core.Bool.{Bool, false}
+use mathlib.Core.Bool.{false}
 use mathlib.Core.List.{List}
 use lib.ListN.{length}
+use Rattle.headers.specs.declared.Syntax.{Syntax}
 use Rattle.headers.specs.declared.Inside.{Inside}
+use Rattle.headers.specs.declared.Scope.{Scope}
 use Rattle.headers.specs.declared.Head.{Head}
 use Rattle.headers.specs.declared.Head.the-variants.{Fault, Value, Nest}
 use Rattle.headers.specs.declared.Close.{Close}
@@ -66,22 +68,36 @@ unfoldable pub itemsFrom : Elem → List ℕ → Inside → ℕ → Read
 itemsFrom element s inside at = walk (itemStep element s inside) (suc (inside .stop - at)) at
 
 -- an element, with room for so many sequences within one another; with room for none, a sequence is refusal 7
-unfoldable pub elementAt : List ℕ → Bool → ℕ → Elem
-elementAt s explicit zero end at floor =
-    behind (λ inside. Refused 7) (headAt s explicit end at floor)
-elementAt s explicit (suc room) end at floor =
-    behind (λ inside. itemsFrom (elementAt s explicit room) s inside (inside .from)) (headAt s explicit end at floor)
+unfoldable pub elementAt : List ℕ → Syntax → ℕ → Elem
+elementAt s syntax zero end at floor =
+    behind (λ inside. Refused 7) (headAt s syntax end at floor)
+elementAt s syntax (suc room) end at floor =
+    behind (λ inside. itemsFrom (elementAt s syntax room) s inside (inside .from)) (headAt s syntax end at floor)
 
-unfoldable pub listAt : List ℕ → Bool → ℕ → Inside → Read
-listAt s explicit room inside = listFrom (elementAt s explicit room) s inside (start inside)
+-- a list or a sequence in a syntax, with room for so many sequences within one another
+abbrev pub scopeOf : Syntax → ℕ → Inside → Scope
+scopeOf syntax room inside = record { syntax = syntax; room = room; inside = inside }
 
-unfoldable pub itemAt : List ℕ → Bool → ℕ → ℕ → ℕ → Read
-itemAt s explicit room end at = itemWith (elementAt s explicit room) s end at
+-- what a sequence that stands in a list holds, and what its items hold
+abbrev pub deeper : Scope → Inside → Scope
+deeper scope inside = scopeOf (scope .syntax) (scope .room - 1) inside
+
+abbrev pub elementIn : List ℕ → Scope → Elem
+elementIn s scope = elementAt s (scope .syntax) (scope .room)
+
+unfoldable pub listAt : List ℕ → Scope → Read
+listAt s scope = listFrom (elementIn s scope) s (scope .inside) (start (scope .inside))
+
+unfoldable pub itemAt : List ℕ → Syntax → ℕ → ℕ → ℕ → Read
+itemAt s syntax room end at = itemWith (elementAt s syntax room) s end at
 
 -- all the bytes, as one list of defined length
 abbrev pub whole : List ℕ → Inside
 whole s = record { from = 0; stop = length s; loose = false }
 
 -- a data set or a command set: four sequences within one another are read, the fifth is refused
-unfoldable pub dataSet : List ℕ → Bool → Read
-dataSet s explicit = listAt s explicit 4 (whole s)
+abbrev pub dataScope : List ℕ → Syntax → Scope
+dataScope s syntax = scopeOf syntax 4 (whole s)
+
+unfoldable pub dataSet : List ℕ → Syntax → Read
+dataSet s syntax = listAt s (dataScope s syntax)

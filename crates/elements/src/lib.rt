@@ -3,6 +3,8 @@ use headers::Close;
 use headers::Head;
 use headers::Inside;
 use headers::Part;
+use headers::Scope;
+use headers::Syntax;
 use headers::closing;
 use headers::item_head;
 use headers::tag_at;
@@ -10,7 +12,7 @@ use syntaxes::element_head;
 ghost use mathlib.Core.Path.{_≡_};
 ghost use Prim.Native.Nat.{_≤_};
 ghost use lib.ListN.{length};
-ghost use Rattle.elements.specs.Reader.{elementAt, itemAt, listAt, dataSet};
+ghost use Rattle.elements.specs.Reader.{elementAt, itemAt, listAt, dataScope, dataSet};
 
 // The delimiters that close an item's list and a sequence of undefined length.
 pub const ITEM_END: usize = 0xFFFE_E00D;
@@ -38,10 +40,12 @@ pub enum Items {
 }
 
 // The list of elements that a data set or an item holds.
-fn list(s: &[u8], explicit: bool, room: usize, inside: Inside) -> Read
-    requires { ⌜ (inside .from ≤ inside .stop) × (inside .stop ≤ length (now s)) ⌝ }
-    ensures { λ r. ⌜ r ≡ listAt (now (s .entry)) explicit room inside ⌝ }
+fn list(s: &[u8], scope: Scope) -> Read
+    requires { ⌜ (scope .inside .from ≤ scope .inside .stop) × (scope .inside .stop ≤ length (now s)) ⌝ }
+    ensures { λ r. ⌜ r ≡ listAt (now (s .entry)) scope ⌝ }
 {
+    let syntax = scope.syntax;
+    let inside = scope.inside;
     let mut p = inside.from;
     let mut floor = 0;
     loop {
@@ -49,7 +53,7 @@ fn list(s: &[u8], explicit: bool, room: usize, inside: Inside) -> Read
         if let Close::Here(q) = close {
             return Read::Past(q);
         }
-        match element(s, explicit, room, inside.stop, p, floor) {
+        match element(s, syntax, scope.room, inside.stop, p, floor) {
             Read::Past(q) => {
                 floor = tag_at(s, p) + 1;
                 p = q;
@@ -62,11 +66,11 @@ fn list(s: &[u8], explicit: bool, room: usize, inside: Inside) -> Read
 }
 
 // One element: a value is passed over, and a sequence is read item by item.
-pub fn element(s: &[u8], explicit: bool, room: usize, end: usize, at: usize, floor: usize) -> Read
+pub fn element(s: &[u8], syntax: Syntax, room: usize, end: usize, at: usize, floor: usize) -> Read
     requires { ⌜ (at ≤ end) × (end ≤ length (now s)) ⌝ }
-    ensures { λ r. ⌜ r ≡ elementAt (now (s .entry)) explicit room end at floor ⌝ }
+    ensures { λ r. ⌜ r ≡ elementAt (now (s .entry)) syntax room end at floor ⌝ }
 {
-    match element_head(s, explicit, end, at, floor) {
+    match element_head(s, syntax, end, at, floor) {
         Head::Fault(n) => Read::Refused(n),
         Head::Value(part) => Read::Past(part.stop),
         Head::Nest(inside) => {
@@ -79,7 +83,7 @@ pub fn element(s: &[u8], explicit: bool, room: usize, end: usize, at: usize, flo
                 if let Close::Here(q) = close {
                     return Read::Past(q);
                 }
-                match item(s, explicit, room - 1, inside.stop, p) {
+                match item(s, syntax, room - 1, inside.stop, p) {
                     Read::Past(q) => {
                         p = q;
                     }
@@ -93,25 +97,43 @@ pub fn element(s: &[u8], explicit: bool, room: usize, end: usize, at: usize, flo
 }
 
 // One item of a sequence.
-pub fn item(s: &[u8], explicit: bool, room: usize, end: usize, at: usize) -> Read
+pub fn item(s: &[u8], syntax: Syntax, room: usize, end: usize, at: usize) -> Read
     requires { ⌜ (at ≤ end) × (end ≤ length (now s)) ⌝ }
-    ensures { λ r. ⌜ r ≡ itemAt (now (s .entry)) explicit room end at ⌝ }
+    ensures { λ r. ⌜ r ≡ itemAt (now (s .entry)) syntax room end at ⌝ }
 {
     match item_head(s, end, at) {
         Head::Fault(n) => Read::Refused(n),
         Head::Value(part) => Read::Past(part.stop),
-        Head::Nest(inside) => list(s, explicit, room, inside),
+        Head::Nest(inside) => list(
+            s,
+            Scope {
+                syntax,
+                room,
+                inside,
+            },
+        ),
     }
 }
 
-// A whole data set or command set.
-pub fn data_set(s: &[u8], explicit: bool) -> Read
-    ensures { λ r. ⌜ r ≡ dataSet (now (s .entry)) explicit ⌝ }
+// All of a data set or command set, which has room for four sequences within one another.
+pub fn data_scope(s: &[u8], syntax: Syntax) -> Scope
+    ensures { λ r. ⌜ (r ≡ dataScope (now (s .entry)) syntax) × (r .inside .from ≤ r .inside .stop) × (r .inside .stop ≤ length (now (s .entry))) ⌝ }
 {
-    let whole = Inside {
+    let inside = Inside {
         from: 0,
         stop: s.len(),
         loose: false,
     };
-    list(s, explicit, 4, whole)
+    Scope {
+        syntax,
+        room: 4,
+        inside,
+    }
+}
+
+// A whole data set or command set.
+pub fn data_set(s: &[u8], syntax: Syntax) -> Read
+    ensures { λ r. ⌜ r ≡ dataSet (now (s .entry)) syntax ⌝ }
+{
+    list(s, data_scope(s, syntax))
 }

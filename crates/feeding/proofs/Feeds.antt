@@ -8,48 +8,35 @@ use mathlib.Core.Option.{Option, none, some}
 use native.Mathlib.Omega.{arith}
 use lib.Dec.{eqb, leb, ltb}
 use lib.ListN.{length}
-use borrow.Author.Tests.{ne-eqb, lt-ltb, le-ltb, lt-leb, le-leb, eqb-true, leb-true, ltb-false}
+use borrow.Author.Tests.{ne-eqb, eqb-true, leb-true, ltb-false}
 use Rattle.choice.specs.Pick.{pick, both, either, not}
-use Rattle.choice.specs.Rules.{Rule, _⇒_, firstOr, firstBroken}
+use Rattle.choice.specs.Rules.{Rule, _⇒_, firstBroken}
 use Rattle.choice.proofs.Picks.{both-true, both-second, either-false, not-false}
-use Rattle.choice.proofs.Broken.{first-by-number}
+use Rattle.choice.proofs.Broken.{first-by-number, first-refused, first-unbroken, none-broken}
 use Rattle.octets.specs.Octets.{laid, Bytes}
 use Rattle.strike.specs.Service.{Check, passes, refuses, DataSet, Result, fails, does, feed}
 use Rattle.strike.specs.Machine as machine
-use Rattle.strike.specs.Machine.{idle, Fragment, headerWrong, fragmentIn, Outcome, ignores, waits, drops, asks, collect, laidBy, Records, checked, fed, carriedOut, answered, step, laidIf, messageAfter}
+use Rattle.strike.specs.Machine.{commandLimit, idle, Fragment, headerWrong, fragmentIn, Outcome, ignores, waits, drops, asks, collect, laidBy, Records, checked, fed, carriedOut, answered, step, laidIf, messageAfter}
 use Rattle.rules.specs.declared.Core.{Core}
 use Rattle.rules.specs.declared.Input.{Input}
-use Rattle.rules.specs.Bounds.{commandLimit, leastRoom, mostRoom, commandRoom, dataRoom, reportRoom}
-use Rattle.rules.specs.Records.{isOpen}
-use Rattle.rules.specs.Layout.{inputFormat, stateFormat, recordsSize, unpack}
+use Rattle.rules.specs.Bounds.{leastRoom, mostRoom, commandRoom, dataRoom, reportRoom}
+use Rattle.rules.specs.Records.{isOpen, commandHeld}
+use Rattle.rules.specs.Layout.{inputFormat, stateFormat, unpack}
 use Rattle.rules.specs.Lists.{every}
 use Rattle.rules.specs.Commands.{understood}
-use Rattle.rules.specs.Sound.{zeros, readable, commandOf, phaseSound, inputSound, sound}
+use Rattle.rules.specs.Sound.{zeros, readable, phaseSound, inputSound, sound}
 use Rattle.rules.specs.Responses.{Reply}
 use Rattle.rules.specs.Checks.{decide}
 use Rattle.rules.specs.Calls.{messageWrong, feedRules, check, closed, reading, printing}
-use Rattle.rules.specs.Outcomes.{commandHeld, inputIn, inputHeld, recordsIn, written, reportBytes, recordsRules, Lent, nothingFed, fedOnly, fedTo, lengths, feeds}
+use Rattle.rules.specs.Outcomes.{inputIn, inputHeld, recordsIn, written, reportBytes, recordsRules, Lent, nothingFed, fedOnly, fedTo, lengths, feeds}
 use Rattle.collecting.specs.declared.Answer.the-variants.{Ignored, Wait, Dropped}
 use Rattle.collecting.specs.declared.Collected.{Collected}
 use Rattle.collecting.specs.Collecting.{Filled, fragmentOf, collectedOf, meantBy, outcomeMeant}
 use Rattle.collecting.proofs.Meant.{collected-meant, fragment-in, sound-filled}
 use Rattle.promises.proofs.ListLaws.{all-true}
-use Rattle.verdicts.proofs.Plans.{none-broken}
 use Rattle.promises.proofs.Kept.{sound-parts}
 use Rattle.promises.proofs.Packed.{state-laws}
-use Rattle.feeding.specs.Feeding.{inputWritten, settled}
-
--- Lines 1 and 2, for the records themselves.
-
-module _ {A : Type 0} (f : ℕ → A) (b : List ℕ) (x : A) where
-  pub records-short : length b < recordsSize → firstOr f (recordsRules b) x ≡ f 2
-  records-short h = rw (lt-leb recordsSize (length b) h, lt-ltb (length b) recordsSize h)
-
-  pub records-unsound : recordsSize ≤ length b → sound (unpack b) ≡ false → firstOr f (recordsRules b) x ≡ f 1
-  records-unsound h e = rw (le-leb recordsSize (length b) h, e)
-
-  pub records-kept : recordsSize ≤ length b → sound (unpack b) ≡ true → firstOr f (recordsRules b) x ≡ x
-  records-kept h e = rw (le-leb recordsSize (length b) h, e, le-ltb (length b) recordsSize h)
+use Rattle.feeding.specs.Feeding.{inputWritten}
 
 -- no rule of a feed has the number of a wrong header
 never-header : (a b c d e : Bool) → eqb (firstBroken ((a ⇒ 2) ∷ (b ⇒ 2) ∷ (c ⇒ 2) ∷ (d ⇒ 2) ∷ (e ⇒ 4) ∷ [])) 5 ≡ false
@@ -85,7 +72,7 @@ got-by room got used readable false false true e = no-more got room (both-true r
 got-by room got used readable false false false e = no-more got room (both-true (eqb got 0) true (both-true (eqb used 0) (zeros (got ∷ [])) e .1) .0)
 
 got-fits : (room : ℕ) (i : Input) → phaseSound room i ≡ true → i .got ≤ room
-got-fits room i e = got-by room (i .got) (i .used) (readable (understood (commandOf i))) (eqb (i .phase) 1) (eqb (i .phase) 3) (eqb (i .phase) 4) e
+got-fits room i e = got-by room (i .got) (i .used) (readable (understood (commandHeld i))) (eqb (i .phase) 1) (eqb (i .phase) 3) (eqb (i .phase) 4) e
 
 module _ (l : Lent) (fragment : List ℕ) where
   abbrev core : Core
@@ -103,13 +90,9 @@ module _ (l : Lent) (fragment : List ℕ) where
   abbrev rules : List Rule
   rules = feedRules core (lengths l)
 
-  pub feeds-short : length (l .records) < recordsSize → nothingFed l 2 ≡ feeds l fragment
+  pub feeds-unread : (n : ℕ) → n ≡ firstBroken (recordsRules (l .records)) → (n ≡ 0 → ⊥) → nothingFed l n ≡ feeds l fragment
   unfolding feeds
-  feeds-short h = sym (records-short (nothingFed l) (l .records) _ h)
-
-  pub feeds-unsound : recordsSize ≤ length (l .records) → sound (unpack (l .records)) ≡ false → nothingFed l 1 ≡ feeds l fragment
-  unfolding feeds
-  feeds-unsound h e = sym (records-unsound (nothingFed l) (l .records) _ h e)
+  feeds-unread = first-refused (nothingFed l) (recordsRules (l .records)) _ refl
 
   by-number : check core (feed fragment (lengths l)) ≡ pick (eqb (firstBroken rules) 0) passes (refuses (firstBroken rules))
   unfolding check
@@ -129,12 +112,12 @@ module _ (l : Lent) (fragment : List ℕ) where
       let got = got-fits (core .opened .room) input (t .1 .1 .1 .0) in
       (sound-filled input (leb-true (input .used) 1024 (t .1 .0)) (command-length (l .records) o) (t .1 .1 .0), omega (arith, room .0, got), omega (arith, room .1))
 
-  module _ (long : recordsSize ≤ length (l .records)) (kept : sound (unpack (l .records)) ≡ true) where
+  module _ (accepted : firstBroken (recordsRules (l .records)) ≡ 0) where
     by-check : (x : Check) → check core (feed fragment (lengths l)) ≡ x
         → feeds l fragment ≡ fedTo l (laidIf printing x before (fragmentIn (core .opened .context) fragment) (l .message)) (checked printing x before (feed fragment (lengths l)))
     unfolding feeds step messageAfter
     by-check x e =
-        records-kept (nothingFed l) (l .records) _ long kept
+        sym (first-unbroken (nothingFed l) (recordsRules (l .records)) _ refl accepted)
         ∙ ap (λ (y : Check). fedTo l (laidIf printing y before (fragmentIn (core .opened .context) fragment) (l .message)) (checked printing y before (feed fragment (lengths l)))) e
 
     pub feeds-refused : (n : ℕ) → n ≡ firstBroken rules → (n ≡ 0 → ⊥) → nothingFed l n ≡ feeds l fragment
@@ -163,7 +146,7 @@ module _ (l : Lent) (fragment : List ℕ) where
         outcome : collect reading (length (l .message)) held (fragmentOf fragment) ≡ meantBy (r .answer) (r .input) m
         unfolding outcomeMeant
         outcome =
-            sym (collected-meant (length (l .message)) input (fragmentOf fragment) (l .message) got)
+            sym (collected-meant input (fragmentOf fragment) (l .message) got)
             ∙ ap (λ (x : Collected). outcomeMeant x (laidBy (length (l .message)) held (fragmentOf fragment) (l .message))) (sym er)
             ∙ ap (λ (x : List ℕ). outcomeMeant r x) (sym em)
 
@@ -215,10 +198,3 @@ module _ (l : Lent) (fragment : List ℕ) where
               → record { number = 19; records = b; message = m; command = command; dataSet = dataSet; report = report } ≡ feeds l fragment
           unfolding answered
           feeds-done k e eb = rw (eb, ec, ed, et) (sym (by-result (does k reply) e))
-
-          -- a verdict, done or failed
-          pub feeds-answered : (done : Bool) (k : Core) → decide core (commandHeld (r .input)) d ≡ pick done (does k reply) (fails reply) → b ≡ settled done k (l .records)
-              → record { number = 19; records = b; message = m; command = command; dataSet = dataSet; report = report } ≡ feeds l fragment
-          unfolding settled
-          feeds-answered true k e eb = feeds-done k e eb
-          feeds-answered false k e eb = feeds-failed e eb

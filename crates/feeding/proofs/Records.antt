@@ -1,7 +1,7 @@
 -- The input written alone leaves the bytes that all records packed would.
 -- Assumes nothing.
 use Prim.Native.Nat.{ℕ, _+_, _≤_}
-use mathlib.Core.Path.{_≡_, refl, sym, ap, _∙_}
+use mathlib.Core.Path.{_≡_, sym, ap, _∙_}
 use mathlib.Core.List.{List}
 use native.Mathlib.Omega.{arith}
 use lib.ListN.{length}
@@ -10,23 +10,20 @@ use Rattle.octets.proofs.Laid.{laid-then}
 use Rattle.fields.specs.Format.{write}
 use Rattle.fields.proofs.Laws.{write-read}
 use Rattle.rules.specs.declared.Input.{Input}
-use Rattle.rules.specs.Layout.{serialFormat, pictureFormat, nameFormat, sessionFormat, boxFormat, layoutFormat, filmFormat, shelfFormat, entryFormat, queueFormat, numbersFormat, openedFormat, coreFormat, inputFormat, stateFormat, unpack, pack}
+use Rattle.rules.specs.Layout.{coreFormat, inputFormat, stateFormat, coreSize, recordsSize, unpack, pack}
+use Rattle.rules.proofs.Sizes.{core-size}
 use Rattle.promises.proofs.Packed.{core-laws}
 use Rattle.feeding.specs.Feeding.{inputWritten}
 
-core-size : coreFormat .size ≡ 6049
-unfolding serialFormat pictureFormat nameFormat sessionFormat boxFormat layoutFormat filmFormat shelfFormat entryFormat queueFormat numbersFormat openedFormat coreFormat
-core-size = refl
-
-module _ (b : List ℕ) (i : Input) (o : Bytes b) (h : 7080 ≤ length b) where
+module _ (b : List ℕ) (i : Input) (o : Bytes b) (h : recordsSize ≤ length b) where
   core-stays : laid b 0 (coreFormat .bytes (coreFormat .read b 0)) ≡ b
   unfolding write
   core-stays = write-read core-laws b 0 o (omega (arith, core-size, h))
 
-  at-input : 0 + length (coreFormat .bytes (coreFormat .read b 0)) ≡ 6049
+  at-input : 0 + length (coreFormat .bytes (coreFormat .read b 0)) ≡ coreSize
   at-input = omega (arith, core-laws .sized (coreFormat .read b 0), core-size)
 
-  pub input-alone : write inputFormat i b 6049 ≡ inputWritten i b
+  pub input-alone : write inputFormat i b coreSize ≡ inputWritten i b
   unfolding write inputWritten unpack pack stateFormat
   input-alone =
       ap (λ (n : ℕ). laid b n (inputFormat .bytes i)) (sym at-input)

@@ -11,29 +11,29 @@ use lib.ListN.{length, take, length-append, length-take}
 use borrow.Author.Tests.{eq-eqb, ne-eqb, lt-ltb}
 use Rattle.choice.specs.Pick.{not}
 use Rattle.octets.specs.Octets.{octets, laid}
-use Rattle.octets.proofs.Laid.{laid-none}
 use Rattle.uids.specs.Uids.{isUid, made, decimal}
 use Rattle.uids.proofs.Length.{uid-some}
 use Rattle.uids.proofs.Made.{made-short}
+use Rattle.headers.specs.declared.Syntax.{Syntax}
+use Rattle.headers.specs.declared.Syntax.the-variants.{Implicit}
 use Rattle.writing.specs.Bytes.{written}
 use Rattle.rules.specs.declared.Name.{Name}
 use Rattle.rules.specs.declared.Numbers.{Numbers}
 use Rattle.rules.specs.declared.Core.{Core}
+use Rattle.rules.specs.declared.Contents.the-variants.{NewBoxes}
+use Rattle.rules.specs.declared.Verdict.{Verdict}
 use Rattle.rules.specs.declared.Operation.{Operation}
 use Rattle.rules.specs.declared.Operation.the-variants.{Echo, Create, Set, Act, Delete}
 use Rattle.rules.specs.declared.Request.{Request}
 use Rattle.rules.specs.Lists.{from}
-use Rattle.rules.specs.Records.{rootOf, uidOf, explicitVR}
+use Rattle.rules.specs.Records.{rootOf, uidOf, instanceOf, syntaxIn}
 use Rattle.rules.specs.Commands.{uidAt}
-use Rattle.rules.specs.Responses.{noNote, reply, responseTree, filmTree}
-use Rattle.rules.specs.Checks.{classPart, fieldOf, actionOf, says}
+use Rattle.rules.specs.declared.Note.the-variants.{NoNote, FilmsQueued, PictureAt}
+use Rattle.rules.specs.Responses.{reply, responseTree, filmTree, dataSetOf}
+use Rattle.rules.specs.Checks.{classPart, fieldOf, actionOf, says, replyTo}
 use Rattle.rules.specs.Outcomes.{reportBytes}
 use Rattle.responses.specs.Parts.{given, actionBy, saysBy, dataShown, reportBy}
 use Rattle.responses.proofs.Response.{data-shown}
-use Rattle.verdicts.specs.declared.Notice.{Notice}
-use Rattle.verdicts.specs.declared.NewBoxes.{NewBoxes}
-use Rattle.verdicts.specs.declared.Verdict.{Verdict}
-use Rattle.verdicts.specs.Verdicts.{instanceOf, noteOf, dataSetOf, replyOf}
 use Rattle.verdicts.specs.Ready.{UidIn, UidsIn}
 use Rattle.feeding.specs.Feeding.{isAction, kindOf, commandBytes, reportOf, unknownReply}
 
@@ -81,15 +81,11 @@ module _ (n : Numbers) (name : Name) (s out : List ℕ) (r : ℕ) where
 
 -- The data set.
 
-module _ (k : Core) (b : NewBoxes) (s : List ℕ) where
-  pub data-none : b .count ≡ 0 → (s ≡ laid s 0 (dataSetOf k b)) × (0 ≡ length (dataSetOf k b))
-  data-none e = (rw (eq-eqb (b .count) 0 e) (sym (laid-none s 0)), rw (eq-eqb (b .count) 0 e))
-
-  pub data-some : (out root : List ℕ) (r : ℕ) → (b .count ≡ 0 → ⊥) → root ≡ take (k .numbers .used) (k .numbers .root)
-      → (out ≡ laid s 0 (written (explicitVR k) (filmTree (map (made root) (from (b .first) (b .count)))))) × (r ≡ length (written (explicitVR k) (filmTree (map (made root) (from (b .first) (b .count))))))
-      → (out ≡ laid s 0 (dataSetOf k b)) × (r ≡ length (dataSetOf k b))
-  unfolding rootOf
-  data-some out root r f e h = (rw (ne-eqb (b .count) 0 f, ← e) (h .0), rw (ne-eqb (b .count) 0 f, ← e) (h .1))
+pub new-boxes-laid : (k : Core) (first count : ℕ) (s out root : List ℕ) (r : ℕ) (syntax : Syntax) → root ≡ take (k .numbers .used) (k .numbers .root) → syntax ≡ syntaxIn k
+    → (out ≡ laid s 0 (written syntax (filmTree (map (made root) (from first count))))) × (r ≡ length (written syntax (filmTree (map (made root) (from first count)))))
+    → (out ≡ laid s 0 (dataSetOf k (NewBoxes first count))) × (r ≡ length (dataSetOf k (NewBoxes first count)))
+unfolding rootOf
+new-boxes-laid k first count s out root r syntax e i h = (rw (← e, ← i) (h .0), rw (← e, ← i) (h .1))
 
 -- The command set.
 
@@ -117,21 +113,17 @@ says-by c r class instance field acts kind h ec ef ea ek =
 -- The report.
 
 module _ (status command size : ℕ) where
-  pub note-none : reportBy status command size 0 0 0 0 ≡ reportOf status command size noNote
+  pub note-none : reportBy status command size 0 0 0 0 ≡ reportOf status command size NoNote
   unfolding reportBy reportOf octets
   note-none = refl
 
-  module _ (n : Notice) where
-    pub note-queued : n .kind ≡ 1 → reportBy status command size 1 (n .first) 0 0 ≡ reportOf status command size (noteOf n)
-    unfolding reportBy reportOf octets
-    note-queued e = rw (eq-eqb (n .kind) 1 e)
+  pub note-queued : (films : ℕ) → reportBy status command size 1 films 0 0 ≡ reportOf status command size (FilmsQueued films)
+  unfolding reportBy reportOf octets
+  note-queued films = refl
 
-    pub note-picture : (n .kind ≡ 1 → ⊥) → n .kind ≡ 2 → reportBy status command size 2 (n .first) (n .second) (n .third) ≡ reportOf status command size (noteOf n)
-    unfolding reportBy reportOf
-    note-picture f e = rw (ne-eqb (n .kind) 1 f, eq-eqb (n .kind) 2 e)
-
-    pub note-other : (n .kind ≡ 1 → ⊥) → (n .kind ≡ 2 → ⊥) → reportBy status command size 0 0 0 0 ≡ reportOf status command size (noteOf n)
-    note-other f g = rw (ne-eqb (n .kind) 1 f, ne-eqb (n .kind) 2 g) note-none
+  pub note-picture : (number place extent : ℕ) → reportBy status command size 2 number place extent ≡ reportOf status command size (PictureAt number place extent)
+  unfolding reportBy reportOf
+  note-picture number place extent = refl
 
 -- The whole response.
 
@@ -143,22 +135,22 @@ module _ (k : Core) (c : List ℕ) (r : Request) (v : Verdict) (size stop : ℕ)
   abbrev bytes : List ℕ
   bytes = commandBytes c r (given uid) (v .status) (dataShown (ltb 0 size))
 
-  replied : given uid ≡ instanceOf (k .numbers) (v .instance) → size ≡ length (dataSetOf k (v .boxes)) → bytes ≡ replyOf k c r v .command
+  replied : given uid ≡ instanceOf (k .numbers) (v .instance) → size ≡ length (dataSetOf k (v .contents)) → bytes ≡ replyTo k c r v .command
   unfolding reply
   replied e d =
-      let shown : eqb (length (dataSetOf k (v .boxes))) 0 ≡ not (ltb 0 size) = rw (← d) (some-bytes size) in
+      let shown : eqb (length (dataSetOf k (v .contents))) 0 ≡ not (ltb 0 size) = rw (← d) (some-bytes size) in
       ap (λ (i : Option (List ℕ)). commandBytes c r i (v .status) (dataShown (ltb 0 size))) e
-      ∙ ap (written false) (sym (data-shown (says c r (instanceOf (k .numbers) (v .instance))) (v .status) (dataSetOf k (v .boxes)) (ltb 0 size) shown))
+      ∙ ap (written Implicit) (sym (data-shown (says c r (instanceOf (k .numbers) (v .instance))) (v .status) (dataSetOf k (v .contents)) (ltb 0 size) shown))
 
-  reported : stop ≡ length (replyOf k c r v .command) → size ≡ length (dataSetOf k (v .boxes)) → reportOf (v .status) stop size (noteOf (v .notice)) ≡ reportBytes (replyOf k c r v)
+  reported : stop ≡ length (replyTo k c r v .command) → size ≡ length (dataSetOf k (v .contents)) → reportOf (v .status) stop size (v .note) ≡ reportBytes (replyTo k c r v)
   unfolding reply reportOf reportBytes
   reported e d = rw (e, d)
 
   pub responded : (command commandAfter dataSet dataAfter report reportAfter : List ℕ) → given uid ≡ instanceOf (k .numbers) (v .instance)
-      → (dataAfter ≡ laid dataSet 0 (dataSetOf k (v .boxes))) × (size ≡ length (dataSetOf k (v .boxes)))
+      → (dataAfter ≡ laid dataSet 0 (dataSetOf k (v .contents))) × (size ≡ length (dataSetOf k (v .contents)))
       → (commandAfter ≡ laid command 0 bytes) × (stop ≡ length bytes)
-      → reportAfter ≡ laid report 0 (reportOf (v .status) stop size (noteOf (v .notice)))
-      → (commandAfter ≡ laid command 0 (replyOf k c r v .command)) × (dataAfter ≡ laid dataSet 0 (replyOf k c r v .dataSet)) × (reportAfter ≡ laid report 0 (reportBytes (replyOf k c r v)))
+      → reportAfter ≡ laid report 0 (reportOf (v .status) stop size (v .note))
+      → (commandAfter ≡ laid command 0 (replyTo k c r v .command)) × (dataAfter ≡ laid dataSet 0 (replyTo k c r v .dataSet)) × (reportAfter ≡ laid report 0 (reportBytes (replyTo k c r v)))
   unfolding reply
   responded command commandAfter dataSet dataAfter report reportAfter i d s t =
       let whole = replied i (d .1) in
@@ -167,9 +159,9 @@ module _ (k : Core) (c : List ℕ) (r : Request) (v : Verdict) (size stop : ℕ)
 
 -- The response to an unknown field.
 pub unknown-responded : (message field stop : ℕ) (command commandAfter report reportAfter : List ℕ)
-    → (commandAfter ≡ laid command 0 (written false (responseTree (saysBy [] field message [] false 0) 0x0211 (dataShown false)))) × (stop ≡ length (written false (responseTree (saysBy [] field message [] false 0) 0x0211 (dataShown false))))
+    → (commandAfter ≡ laid command 0 (written Implicit (responseTree (saysBy [] field message [] false 0) 0x0211 (dataShown false)))) × (stop ≡ length (written Implicit (responseTree (saysBy [] field message [] false 0) 0x0211 (dataShown false))))
     → reportAfter ≡ laid report 0 (reportBy 0x0211 stop 0 0 0 0 0)
     → (commandAfter ≡ laid command 0 (unknownReply message field .command)) × (reportAfter ≡ laid report 0 (reportBytes (unknownReply message field)))
 unfolding saysBy reply reportBytes reportOf
 unknown-responded message field stop command commandAfter report reportAfter s t =
-    (s .0, t ∙ ap (λ (x : List ℕ). laid report 0 x) (note-none 0x0211 stop 0 ∙ ap (λ (n : ℕ). reportOf 0x0211 n 0 noNote) (s .1)))
+    (s .0, t ∙ ap (λ (x : List ℕ). laid report 0 x) (note-none 0x0211 stop 0 ∙ ap (λ (n : ℕ). reportOf 0x0211 n 0 NoNote) (s .1)))

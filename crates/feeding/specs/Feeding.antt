@@ -5,6 +5,7 @@ use mathlib.Core.List.{List, [], _++_}
 use mathlib.Core.Option.{Option}
 use Rattle.choice.specs.Pick.{pick}
 use Rattle.octets.specs.Octets.{octets, laid}
+use Rattle.headers.specs.declared.Syntax.the-variants.{Implicit}
 use Rattle.writing.specs.Bytes.{written}
 use Rattle.strike.specs.Machine.{idle}
 use Rattle.rules.specs.declared.Core.{Core}
@@ -13,9 +14,10 @@ use Rattle.rules.specs.declared.Operation.{Operation}
 use Rattle.rules.specs.declared.Operation.the-variants.{Echo, Create, Set, Act, Delete}
 use Rattle.rules.specs.declared.Request.{Request}
 use Rattle.rules.specs.Layout.{unpack, pack}
-use Rattle.rules.specs.Responses.{Note, noNote, Reply, reply, responseTree}
+use Rattle.rules.specs.declared.Note.{Note}
+use Rattle.rules.specs.declared.Note.the-variants.{NoNote}
+use Rattle.rules.specs.Responses.{Reply, reply, responseTree}
 use Rattle.rules.specs.Checks.{says, saysUnknown}
-use Rattle.rules.specs.Calls.{Handed}
 use Rattle.rules.specs.Outcomes as outcomes
 use Rattle.rules.specs.Outcomes.{inputHeld, noteBytes}
 
@@ -37,7 +39,7 @@ kindOf (Delete r) = 0
 
 -- the bytes of a response's command set
 abbrev pub commandBytes : List ℕ → Request → Option (List ℕ) → ℕ → List ℕ → List ℕ
-commandBytes c r instance status d = written false (responseTree (says c r instance) status d)
+commandBytes c r instance status d = written Implicit (responseTree (says c r instance) status d)
 
 -- the report, from the lengths of command and data set
 unfoldable pub reportOf : ℕ → ℕ → ℕ → Note → List ℕ
@@ -45,7 +47,7 @@ reportOf status command size note = octets 2 status ++ (octets 2 command ++ (oct
 
 -- the response to an unknown field, check 1
 abbrev pub unknownReply : ℕ → ℕ → Reply
-unknownReply message field = reply (saysUnknown message field) 0x0211 [] noNote
+unknownReply message field = reply (saysUnknown message field) 0x0211 [] NoNote
 
 -- the records' bytes with another input alone
 unfoldable pub inputWritten : Input → List ℕ → List ℕ
@@ -54,18 +56,3 @@ inputWritten i b = laid b 0 (pack (record { core = unpack b .core; input = i }))
 -- the records' bytes after a request: what was done is kept, a failure leaves the core
 unfoldable pub settled : Bool → Core → List ℕ → List ℕ
 settled done k b = pick done (outcomes.written (record { core = k; input = idle }) b) (inputWritten (inputHeld idle) b)
-
--- the lengths that the check of a feed looks at
-abbrev pub feedHanded : ℕ → ℕ → ℕ → ℕ → Handed
-feedHanded message command dataSet report = record {
-  root = [];
-  serial = 0;
-  picture = 0;
-  context = 0;
-  syntax = 0;
-  message = message;
-  command = command;
-  dataSet = dataSet;
-  report = report;
-  entry = 0;
-}

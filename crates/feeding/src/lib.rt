@@ -1,17 +1,17 @@
 // Feeding: what a feed is refused for, the response that it writes, and the records afterwards.
+use records::CORE;
 use responses::put_film_boxes;
 use responses::put_report;
 use responses::put_response;
+use rules::Contents;
 use rules::Core;
 use rules::Input;
 use rules::Name;
+use rules::Note;
 use rules::Numbers;
 use rules::Operation;
 use rules::Request;
-use rules::State;
-use verdicts::NewBoxes;
-use verdicts::Notice;
-use verdicts::Verdict;
+use rules::Verdict;
 ghost use mathlib.Core.Bool.{true};
 ghost use mathlib.Core.Path.{_≡_};
 ghost use Prim.Native.Nat.{_≤_};
@@ -19,15 +19,17 @@ ghost use lib.ListN.{length, take};
 ghost use Rattle.choice.specs.Rules.{firstBroken};
 ghost use Rattle.octets.specs.Octets.{laid};
 ghost use Rattle.strike.specs.Machine.{idle};
-ghost use Rattle.rules.specs.Records.{uidOf};
+ghost use Rattle.rules.specs.Layout.{recordsSize};
+ghost use Rattle.rules.specs.declared.Contents.the-variants.{NewBoxes};
+ghost use Rattle.rules.specs.Records.{uidOf, instanceOf};
+ghost use Rattle.rules.specs.Responses.{ContentsFit, dataSetOf};
 ghost use Rattle.rules.specs.Sound.{coreSound};
-ghost use Rattle.rules.specs.Checks.{fieldOf};
-ghost use Rattle.rules.specs.Calls.{messageWrong, feedRules};
-ghost use Rattle.rules.specs.Outcomes.{inputHeld, reportBytes, written};
+ghost use Rattle.rules.specs.Checks.{fieldOf, replyTo};
+ghost use Rattle.rules.specs.Calls.{feedRules};
+ghost use Rattle.rules.specs.Outcomes.{inputHeld, reportBytes};
 ghost use Rattle.responses.specs.Parts.{given, dataShown};
-ghost use Rattle.verdicts.specs.Verdicts.{instanceOf, noteOf, dataSetOf, replyOf, BoxesFit};
 ghost use Rattle.verdicts.specs.Ready.{UidsIn};
-ghost use Rattle.feeding.specs.Feeding.{isAction, kindOf, commandBytes, reportOf, unknownReply, inputWritten, settled, feedHanded};
+ghost use Rattle.feeding.specs.Feeding.{isAction, kindOf, commandBytes, reportOf, unknownReply, inputWritten, settled};
 
 // The response.
 
@@ -36,7 +38,7 @@ fn put_text(out: &mut [u8], text: [u8; 64], used: usize) -> usize
     requires { ⌜ 64 ≤ length (now out) ⌝ }
     ensures { λ r. ⌜ (now (out .exit) ≡ laid (now (out .entry)) 0 (take used text)) × (r ≡ length (take used text)) × (length text ≡ 64) ⌝ }
 {
-    let uid = naming::front(&text, used);
+    let uid = octets::front(&text, used);
     octets::put(out, 0, uid);
     uid.len()
 }
@@ -52,27 +54,35 @@ fn put_uid(out: &mut [u8], n: Numbers, name: Name) -> usize
         return put_text(out, text, name.used as usize);
     }
     let root = n.root;
-    making::put_made(out, 0, naming::front(&root, n.used as usize), serial.0)
+    making::put_made(out, 0, octets::front(&root, n.used as usize), serial.0)
 }
 
-// The created film's data set, no bytes where no film was created: how many bytes it has.
-fn put_data(data_set: &mut [u8], k: Core, boxes: NewBoxes) -> usize
-    requires { ⌜ (8192 ≤ length (now data_set)) × (k .numbers .used ≤ 40) × BoxesFit boxes ⌝ }
-    ensures { λ r. ⌜ (now (data_set .exit) ≡ laid (now (data_set .entry)) 0 (dataSetOf k boxes)) × (r ≡ length (dataSetOf k boxes)) ⌝ }
+// The created film's data set: how many bytes it has.
+fn put_new_boxes(data_set: &mut [u8], k: Core, first: u32, count: u8) -> usize
+    requires { ⌜ (8192 ≤ length (now data_set)) × (k .numbers .used ≤ 40) × ContentsFit (NewBoxes first count) ⌝ }
+    ensures { λ r. ⌜ (now (data_set .exit) ≡ laid (now (data_set .entry)) 0 (dataSetOf k (NewBoxes first count))) × (r ≡ length (dataSetOf k (NewBoxes first count))) ⌝ }
 {
-    if boxes.count == 0 {
-        return 0;
-    }
     let opened = k.opened;
     let numbers = k.numbers;
     let root = numbers.root;
     put_film_boxes(
         data_set,
-        opened.syntax == 2,
-        naming::front(&root, numbers.used as usize),
-        boxes.first,
-        boxes.count as usize,
+        headers::syntax_of(opened.syntax),
+        octets::front(&root, numbers.used as usize),
+        first,
+        count as usize,
     )
+}
+
+// The answer's data set: how many bytes it has.
+fn put_data(data_set: &mut [u8], k: Core, contents: Contents) -> usize
+    requires { ⌜ (8192 ≤ length (now data_set)) × (k .numbers .used ≤ 40) × ContentsFit contents ⌝ }
+    ensures { λ r. ⌜ (now (data_set .exit) ≡ laid (now (data_set .entry)) 0 (dataSetOf k contents)) × (r ≡ length (dataSetOf k contents)) ⌝ }
+{
+    match contents {
+        Contents::Nothing => 0,
+        Contents::NewBoxes { first, count } => put_new_boxes(data_set, k, first, count),
+    }
 }
 
 fn field_of(operation: Operation) -> u16
@@ -139,25 +149,18 @@ fn put_command(
 }
 
 // The report with a note: none, how many films were queued, or a picture.
-fn put_note(report: &mut [u8], status: u16, command: usize, size: usize, notice: Notice)
+fn put_note(report: &mut [u8], status: u16, command: usize, size: usize, note: Note)
     requires { ⌜ 20 ≤ length (now report) ⌝ }
-    ensures { λ _. ⌜ now (report .exit) ≡ laid (now (report .entry)) 0 (reportOf status command size (noteOf notice)) ⌝ }
+    ensures { λ _. ⌜ now (report .exit) ≡ laid (now (report .entry)) 0 (reportOf status command size note) ⌝ }
 {
-    if notice.kind == 1 {
-        put_report(report, status, command, size, 1, notice.first, 0, 0);
-    } else if notice.kind == 2 {
-        put_report(
-            report,
-            status,
-            command,
-            size,
-            2,
-            notice.first,
-            notice.second,
-            notice.third,
-        );
-    } else {
-        put_report(report, status, command, size, 0, 0, 0, 0);
+    match note {
+        Note::NoNote => put_report(report, status, command, size, 0, 0, 0, 0),
+        Note::FilmsQueued(films) => put_report(report, status, command, size, 1, films, 0, 0),
+        Note::PictureAt {
+            number,
+            place,
+            length,
+        } => put_report(report, status, command, size, 2, number, place, length),
     }
 }
 
@@ -171,11 +174,11 @@ pub fn respond(
     request: Request,
     v: Verdict,
 )
-    requires { ⌜ (256 ≤ length (now command)) × (8192 ≤ length (now data_set)) × (20 ≤ length (now report)) × (coreSound k ≡ true) × UidsIn (now c) (request .operation) × BoxesFit (v .boxes) ⌝ }
-    ensures { λ _. ⌜ (now (command .exit) ≡ laid (now (command .entry)) 0 (replyOf k (now (c .entry)) request v .command)) × (now (data_set .exit) ≡ laid (now (data_set .entry)) 0 (replyOf k (now (c .entry)) request v .dataSet)) × (now (report .exit) ≡ laid (now (report .entry)) 0 (reportBytes (replyOf k (now (c .entry)) request v))) ⌝ }
+    requires { ⌜ (256 ≤ length (now command)) × (8192 ≤ length (now data_set)) × (20 ≤ length (now report)) × (coreSound k ≡ true) × UidsIn (now c) (request .operation) × ContentsFit (v .contents) ⌝ }
+    ensures { λ _. ⌜ (now (command .exit) ≡ laid (now (command .entry)) 0 (replyTo k (now (c .entry)) request v .command)) × (now (data_set .exit) ≡ laid (now (data_set .entry)) 0 (replyTo k (now (c .entry)) request v .dataSet)) × (now (report .exit) ≡ laid (now (report .entry)) 0 (reportBytes (replyTo k (now (c .entry)) request v))) ⌝ }
 {
-    let boxes = v.boxes;
-    let size = put_data(data_set, k, boxes);
+    let contents = v.contents;
+    let size = put_data(data_set, k, contents);
     let mut uid = [0u8; 64];
     let numbers = k.numbers;
     let instance = v.instance;
@@ -186,10 +189,10 @@ pub fn respond(
         request,
         0 < size,
         v.status,
-        naming::front(&uid, n),
+        octets::front(&uid, n),
     );
-    let notice = v.notice;
-    put_note(report, v.status, stop, size, notice);
+    let note = v.note;
+    put_note(report, v.status, stop, size, note);
 }
 
 // The response to an unknown field: no class, instance or action.
@@ -205,49 +208,28 @@ pub fn respond_unknown(command: &mut [u8], report: &mut [u8], message: u16, fiel
 
 // The same core with another input: the core's bytes are what they were.
 pub fn put_input(records: &mut [u8], i: Input)
-    requires { ⌜ 7080 ≤ length (now records) ⌝ }
+    requires { ⌜ recordsSize ≤ length (now records) ⌝ }
     ensures { λ _. ⌜ now (records .exit) ≡ inputWritten i (now (records .entry)) ⌝ }
 {
-    records::put_input(records, 6049, i);
-}
-
-fn no_input() -> Input
-    ensures { λ r. ⌜ r ≡ inputHeld idle ⌝ }
-{
-    Input {
-        phase: 0,
-        used: 0,
-        got: 0,
-        command: [0; 1024],
-    }
+    records::put_input(records, CORE, i);
 }
 
 // The same core with no message half collected.
 pub fn put_idle(records: &mut [u8])
-    requires { ⌜ 7080 ≤ length (now records) ⌝ }
+    requires { ⌜ recordsSize ≤ length (now records) ⌝ }
     ensures { λ _. ⌜ now (records .exit) ≡ inputWritten (inputHeld idle) (now (records .entry)) ⌝ }
 {
-    put_input(records, no_input());
-}
-
-// Another core with no message half collected.
-pub fn put_core(records: &mut [u8], core: Core)
-    requires { ⌜ 7080 ≤ length (now records) ⌝ }
-    ensures { λ _. ⌜ now (records .exit) ≡ written (record { core = core; input = idle }) (now (records .entry)) ⌝ }
-{
-    let input = no_input();
-    let state = State { core, input };
-    records::put_state(records, 0, state);
+    put_input(records, opening::no_input());
 }
 
 // The records after a verdict: what was done is kept, a failure leaves the core.
 pub fn put_settled(records: &mut [u8], v: Verdict)
-    requires { ⌜ 7080 ≤ length (now records) ⌝ }
+    requires { ⌜ recordsSize ≤ length (now records) ⌝ }
     ensures { λ _. ⌜ now (records .exit) ≡ settled (v .done) (v .core) (now (records .entry)) ⌝ }
 {
     if v.done {
         let core = v.core;
-        put_core(records, core);
+        opening::put_core(records, core);
     } else {
         put_idle(records);
     }
@@ -255,31 +237,11 @@ pub fn put_settled(records: &mut [u8], v: Verdict)
 
 // The refusals.
 
-// "the message buffer is out of limits or, while open, of another length"
-pub fn message_wrong(k: Core, room: usize) -> bool
-    ensures { λ r. ⌜ r ≡ messageWrong k room ⌝ }
-{
-    if room < 4096 {
-        return true;
-    }
-    if 16777216 < room {
-        return true;
-    }
-    let opened = k.opened;
-    if opened.live == 0 {
-        return false;
-    }
-    if room == opened.room as usize {
-        return false;
-    }
-    true
-}
-
 // The number that a feed is refused with, by the lengths of the buffers; 0 where it is not.
 pub fn feed_refused(k: Core, message: usize, command: usize, data_set: usize, report: usize) -> u32
-    ensures { λ r. ⌜ r ≡ firstBroken (feedRules k (feedHanded message command data_set report)) ⌝ }
+    ensures { λ r. ⌜ r ≡ firstBroken (feedRules k (record { message = message; command = command; dataSet = data_set; report = report })) ⌝ }
 {
-    if message_wrong(k, message) {
+    if opening::message_wrong(k, message) {
         return 2;
     }
     if command < 256 {

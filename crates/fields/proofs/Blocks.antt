@@ -21,12 +21,6 @@ unfolding bytesAll
 all-bytes a zero h = refl
 all-bytes a (suc n) h = rw (all-bytes a n (omega arith)) (sym (take-suc a n 0 (omega arith)))
 
--- what is read is the part of the list
-pub read-block : (s : List ℕ) (at n : ℕ) → at + n ≤ length s → array n byte .read s at ≡ part s at (at + n)
-read-block s at n h =
-    let e : at + n - at ≡ n = omega arith in
-    rw e (all-read s at n h)
-
 -- what is written is the array itself
 pub write-block : (a s : List ℕ) (at n : ℕ) → length a ≡ n → write (array n byte) a s at ≡ laid s at a
 unfolding write

@@ -177,10 +177,3 @@ module _ {A : Type 0} {f : Format A} (F : Laws f) where
   write-read s at o h =
       let e : at + f .size - at ≡ f .size = omega arith in
       rw (F .sized (f .read s at), F .forth s at o h, e, ← drop-drop (f .size) at s, take-append-drop (f .size) (drop at s)) (take-append-drop at s)
-
-  -- equal parts, equal values
-  pub read-part : (s t : List ℕ) (p q : ℕ) → Bytes t → q + f .size ≤ length t → part s p (p + f .size) ≡ part t q (q + f .size)
-      → f .read s p ≡ f .read t q
-  read-part s t p q o h e =
-      F .back (f .read t q) s p (F .good t q o)
-      (rw (F .sized (f .read t q)) (e ∙ sym (F .forth t q o h)))

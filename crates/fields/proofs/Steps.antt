@@ -1,7 +1,7 @@
 -- A struct is written field by field: each call lays the next field's bytes behind those that stand there already.
 -- Assumes nothing.
 use Prim.Native.Nat.{ℕ, _+_, _<_, _≤_}
-use mathlib.Core.Path.{_≡_, refl, sym, subst, _∙_}
+use mathlib.Core.Path.{_≡_, refl, sym, subst, ap, _∙_}
 use mathlib.Core.List.{List, []}
 use native.Mathlib.Omega.{arith}
 use lib.ListN.{length, set}
@@ -47,16 +47,22 @@ last {f} F = record {
   same = λ a s at h. refl;
 }
 
--- a field, and those behind it
-infixr 40 _then-steps_
-abbrev pub _then-steps_ : {A B : Type 0} {f : Format A} {g : Format B} → Laws f → Steps g → Steps (f then g)
-_then-steps_ {f} {g} F G = record {
+-- a field of a known size, and those behind it
+infixr 40 _sized_then-steps_
+abbrev pub _sized_then-steps_ : {A B : Type 0} {f : Format A} {g : Format B} {n : ℕ} → Laws f → f .size ≡ n → Steps g → Steps (f then g)
+_sized_then-steps_ {f} {g} {n} F e G = record {
   laws = F then-laws G .laws;
-  steps = λ a s at. G .steps (a .1) (write f (a .0) s at) (at + f .size);
+  steps = λ a s at. G .steps (a .1) (write f (a .0) s at) (at + n);
   same = λ a s at h.
       write-then F g a s at (omega arith)
-      ∙ G .same (a .1) (write f (a .0) s at) (at + f .size) (rw (length-write F (a .0) s at (omega arith)) (omega arith));
+      ∙ ap (λ k. write g (a .1) (write f (a .0) s at) (at + k)) e
+      ∙ G .same (a .1) (write f (a .0) s at) (at + n) (rw (length-write F (a .0) s at (omega arith)) (omega arith));
 }
+
+-- a field whose size computes, and those behind it
+infixr 40 _then-steps_
+abbrev pub _then-steps_ : {A B : Type 0} {f : Format A} {g : Format B} → Laws f → Steps g → Steps (f then g)
+_then-steps_ {f} F G = F sized (refl {a = f .size}) then-steps G
 
 -- a struct, by its fields
 abbrev pub via-steps : {A B : Type 0} (to : A → B) (from : B → A) {f : Format A}

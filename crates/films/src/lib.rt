@@ -49,7 +49,7 @@ fn first_counts_sound(s: &[u8], n: usize) -> bool
 fn layout_sound(l: Layout) -> bool
     ensures { λ r. ⌜ r ≡ layoutSound l ⌝ }
 {
-    if 1 < l.turned {
+    if 2 < l.kind {
         return false;
     }
     if !one_to_six(l.lines) {
@@ -133,10 +133,10 @@ fn boxes_sound(count: usize, n: Numbers, a: [ImageBox; 36]) -> bool
 }
 
 fn unmarked(f: Film) -> bool
-    ensures { λ r. ⌜ r ≡ zeros (f .layout .turned ∷ f .layout .lines ∷ f .orientation ∷ f .magnification ∷ f .first .0 ∷ []) ⌝ }
+    ensures { λ r. ⌜ r ≡ zeros (f .layout .kind ∷ f .layout .lines ∷ f .orientation ∷ f .magnification ∷ f .first .0 ∷ []) ⌝ }
 {
     let layout = f.layout;
-    if layout.turned != 0 {
+    if layout.kind != 0 {
         return false;
     }
     if layout.lines != 0 {
@@ -179,7 +179,7 @@ fn serials_fit(n: Numbers, f: Film) -> bool
     ensures { λ r. ⌜ r ≡ leb (f .first .0 + boxCount (f .layout)) (n .serial) ⌝ }
 {
     let layout = f.layout;
-    let count = distinct::box_count(layout);
+    let count = layouts::box_count(layout);
     let first = f.first;
     if n.serial < first.0 as u64 + count {
         return false;
@@ -191,7 +191,7 @@ fn boxes_fit(n: Numbers, f: Film) -> bool
     ensures { λ r. ⌜ r ≡ every (boxSound (boxCount (f .layout)) n) (boxesOf f) ⌝ }
 {
     let layout = f.layout;
-    let count = distinct::box_count(layout) as usize;
+    let count = layouts::box_count(layout) as usize;
     let boxes = f.boxes;
     boxes_sound(count, n, boxes)
 }
@@ -200,7 +200,7 @@ fn others_blank(f: Film) -> bool
     ensures { λ r. ⌜ r ≡ every boxBlank (drop (boxCount (f .layout)) (f .boxes)) ⌝ }
 {
     let layout = f.layout;
-    let count = distinct::box_count(layout) as usize;
+    let count = layouts::box_count(layout) as usize;
     let boxes = f.boxes;
     boxes_blank_from(boxes, count)
 }

@@ -8,7 +8,8 @@ use elements::element;
 use elements::item;
 use headers::Close;
 use headers::Head;
-use headers::Inside;
+use headers::Scope;
+use headers::Syntax;
 use headers::closing;
 use headers::item_head;
 use headers::tag_at;
@@ -22,14 +23,14 @@ ghost use Rattle.elements.specs.Find.{only, itemsOf, findAt, itemsAt};
 ghost use Rattle.finding.specs.Gives.{gives};
 
 // What an element gives to the one who looks for its tag. A value is read with its header.
-fn given(s: &[u8], explicit: bool, room: usize, end: usize, at: usize, floor: usize) -> Found
+fn given(s: &[u8], syntax: Syntax, room: usize, end: usize, at: usize, floor: usize) -> Found
     requires { ⌜ (at ≤ end) × (end ≤ length (now s)) ⌝ }
-    ensures { λ r. ⌜ r ≡ gives (elementAt (now (s .entry)) explicit room end at floor) (headAt (now (s .entry)) explicit end at floor) ⌝ }
+    ensures { λ r. ⌜ r ≡ gives (elementAt (now (s .entry)) syntax room end at floor) (headAt (now (s .entry)) syntax end at floor) ⌝ }
 {
-    match element_head(s, explicit, end, at, floor) {
+    match element_head(s, syntax, end, at, floor) {
         Head::Fault(_) => Found::Missing,
         Head::Value(part) => Found::Value(part),
-        Head::Nest(inside) => match element(s, explicit, room, end, at, floor) {
+        Head::Nest(inside) => match element(s, syntax, room, end, at, floor) {
             Read::Past(_) => Found::Sequence(inside),
             Read::Refused(_) => Found::Missing,
         },
@@ -37,10 +38,12 @@ fn given(s: &[u8], explicit: bool, room: usize, end: usize, at: usize, floor: us
 }
 
 // What a list holds under a tag. Tags ascend, so that behind a higher one nothing is looked for.
-pub fn find(s: &[u8], explicit: bool, room: usize, inside: Inside, tag: usize) -> Found
-    requires { ⌜ (inside .from ≤ inside .stop) × (inside .stop ≤ length (now s)) ⌝ }
-    ensures { λ r. ⌜ r ≡ findAt (now (s .entry)) explicit room inside tag ⌝ }
+pub fn find(s: &[u8], scope: Scope, tag: usize) -> Found
+    requires { ⌜ (scope .inside .from ≤ scope .inside .stop) × (scope .inside .stop ≤ length (now s)) ⌝ }
+    ensures { λ r. ⌜ r ≡ findAt (now (s .entry)) scope tag ⌝ }
 {
+    let syntax = scope.syntax;
+    let inside = scope.inside;
     let mut p = inside.from;
     let mut floor = 0;
     loop {
@@ -56,9 +59,9 @@ pub fn find(s: &[u8], explicit: bool, room: usize, inside: Inside, tag: usize) -
             return Found::Missing;
         }
         if t == tag {
-            return given(s, explicit, room, inside.stop, p, floor);
+            return given(s, syntax, scope.room, inside.stop, p, floor);
         }
-        match element(s, explicit, room, inside.stop, p, floor) {
+        match element(s, syntax, scope.room, inside.stop, p, floor) {
             Read::Past(q) => {
                 floor = t + 1;
                 p = q;
@@ -81,10 +84,12 @@ fn only_list(head: Head) -> Items
 }
 
 // How many items a sequence has.
-fn count_items(s: &[u8], explicit: bool, room: usize, inside: Inside) -> usize
-    requires { ⌜ (inside .from ≤ inside .stop) × (inside .stop ≤ length (now s)) ⌝ }
-    ensures { λ r. ⌜ r ≡ length (itemsOf (now (s .entry)) explicit room inside (inside .from)) ⌝ }
+fn count_items(s: &[u8], scope: Scope) -> usize
+    requires { ⌜ (scope .inside .from ≤ scope .inside .stop) × (scope .inside .stop ≤ length (now s)) ⌝ }
+    ensures { λ r. ⌜ r ≡ length (itemsOf (now (s .entry)) scope (scope .inside .from)) ⌝ }
 {
+    let syntax = scope.syntax;
+    let inside = scope.inside;
     let mut p = inside.from;
     let mut count = 0;
     loop {
@@ -92,7 +97,7 @@ fn count_items(s: &[u8], explicit: bool, room: usize, inside: Inside) -> usize
         if let Close::Here(_) = close {
             return count;
         }
-        match item(s, explicit, room, inside.stop, p) {
+        match item(s, syntax, scope.room, inside.stop, p) {
             Read::Past(q) => {
                 count += 1;
                 p = q;
@@ -105,11 +110,12 @@ fn count_items(s: &[u8], explicit: bool, room: usize, inside: Inside) -> usize
 }
 
 // The items of a sequence.
-pub fn items_in(s: &[u8], explicit: bool, room: usize, inside: Inside) -> Items
-    requires { ⌜ (inside .from ≤ inside .stop) × (inside .stop ≤ length (now s)) ⌝ }
-    ensures { λ r. ⌜ r ≡ itemsAt (now (s .entry)) explicit room inside ⌝ }
+pub fn items_in(s: &[u8], scope: Scope) -> Items
+    requires { ⌜ (scope .inside .from ≤ scope .inside .stop) × (scope .inside .stop ≤ length (now s)) ⌝ }
+    ensures { λ r. ⌜ r ≡ itemsAt (now (s .entry)) scope ⌝ }
 {
-    let count = count_items(s, explicit, room, inside);
+    let inside = scope.inside;
+    let count = count_items(s, scope);
     if count == 0 {
         return Items::Empty;
     }

@@ -5,6 +5,7 @@ use mathlib.Core.List.{List, [], _∷_}
 use Prim.Native.Nat.{ℕ, _<_}
 use lib.ListN.{length}
 use Rattle.octets.specs.Octets.{Bytes, numberAt}
+use Rattle.rules.specs.Bounds.{ticketPlace}
 use Rattle.rules.specs.Records.{entriesOf}
 use Rattle.rules.specs.Calls.{entryBytes}
 use Rattle.promises.proofs.EntryBack.{entryAt}
@@ -40,9 +41,9 @@ module _ (before : List ℕ) (o : Bytes before) (root : List ℕ) (serial pictur
   pub live-uids-apart : LiveUidsDiffer (coreIn (lastLeft k ms))
   live-uids-apart = contracts-begun.live-uids-in-bytes before o root serial picture k (told .told) ms (run-met k ms ran)
 
-  -- TICKETS OF THE SIXTEEN DIFFER: two entries of the queue are written by take with different numbers in bytes 144 and 145.
+  -- TICKETS OF THE SIXTEEN DIFFER: two entries of the queue are written by take with different tickets.
   pub tickets-apart : (i j : ℕ) → i < length (entriesOf (coreIn (lastLeft k ms) .queue)) → j < length (entriesOf (coreIn (lastLeft k ms) .queue)) → (i ≡ j → ⊥)
-      → numberAt 2 (entryBytes (coreIn (lastLeft k ms) .numbers) (entryAt (coreIn (lastLeft k ms)) i)) 144 ≡ numberAt 2 (entryBytes (coreIn (lastLeft k ms) .numbers) (entryAt (coreIn (lastLeft k ms)) j)) 144 → ⊥
+      → numberAt 2 (entryBytes (coreIn (lastLeft k ms) .numbers) (entryAt (coreIn (lastLeft k ms)) i)) ticketPlace ≡ numberAt 2 (entryBytes (coreIn (lastLeft k ms) .numbers) (entryAt (coreIn (lastLeft k ms)) j)) ticketPlace → ⊥
   tickets-apart = contracts-begun.tickets-in-bytes before o root serial picture k (told .told) ms (run-met k ms ran)
 
 -- DEMAND 3 FOR THE CODE: strike any whole messages that were answered with a failure, dropped, or cut off by the next command; every other

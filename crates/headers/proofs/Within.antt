@@ -2,7 +2,6 @@
 -- Assumes nothing.
 use mathlib.Core.Path.{_≡_, refl, ap}
 use Prim.Native.Nat.{ℕ, _+_, _-_, _≤_}
-use mathlib.Core.Bool.{Bool, true, false}
 use mathlib.Core.List.{List}
 use native.Mathlib.Omega.{arith}
 use lib.Dec.{ltb, eqb}
@@ -10,6 +9,8 @@ use borrow.Author.Tests.{ltb-false, eq-eqb}
 use Rattle.choice.specs.Pick.{not}
 use Rattle.choice.proofs.Picks.{pick-cases, first-cases, both-second, both-first}
 use Rattle.octets.specs.Octets.{numberAt}
+use Rattle.headers.specs.declared.Syntax.{Syntax}
+use Rattle.headers.specs.declared.Syntax.the-variants.{Implicit, Explicit}
 use Rattle.headers.specs.declared.Inside.{Inside}
 use Rattle.headers.specs.declared.Head.{Head}
 use Rattle.headers.specs.declared.Head.the-variants.{Fault, Value, Nest}
@@ -42,15 +43,15 @@ close-in s mark inside at h =
     (λ _. tt)))
     (λ _. pick-cases (CloseIn at (inside .stop)) (ltb at (inside .stop)) _ _ (λ _. tt) (λ _. (omega arith, h)))
 
-pub size-least : (s : List ℕ) (explicit : Bool) (at : ℕ) → 8 ≤ sizeAt s explicit at
+pub size-least : (s : List ℕ) (syntax : Syntax) (at : ℕ) → 8 ≤ sizeAt s syntax at
 unfolding sizeAt
-size-least s explicit at = pick-cases (λ (n : ℕ). 8 ≤ n) (longAt s explicit at) 12 8 (λ _. omega arith) (λ _. omega arith)
+size-least s syntax at = pick-cases (λ (n : ℕ). 8 ≤ n) (longAt s syntax at) 12 8 (λ _. omega arith) (λ _. omega arith)
 
 -- a header of group FFFE has no VR, and eight bytes
-pub mark-size : (s : List ℕ) (explicit : Bool) (at : ℕ) → groupAt s at ≡ 0xFFFE → sizeAt s explicit at ≡ 8
+pub mark-size : (s : List ℕ) (syntax : Syntax) (at : ℕ) → groupAt s at ≡ 0xFFFE → sizeAt s syntax at ≡ 8
 unfolding sizeAt
-mark-size s true at e = rw (eq-eqb _ _ e)
-mark-size s false at e = refl
+mark-size s Explicit at e = rw (eq-eqb _ _ e)
+mark-size s Implicit at e = refl
 
 length-in : (low from end vr length : ℕ) → low ≤ from → from ≤ end → HeadIn low end (lengthHead from end vr length)
 unfolding lengthHead
@@ -64,13 +65,13 @@ length-in low from end vr length l h =
     let g : length ≤ end - from = ltb-false _ _ (both-second (not (undefined length)) _ (k .1 .1 .0) (ap not d)) in (l, (omega arith, omega arith))))
 
 -- what a header holds lies behind its eight bytes at least
-pub head-in : (s : List ℕ) (explicit : Bool) (end at floor : ℕ) → at ≤ end → HeadIn (at + 8) end (headAt s explicit end at floor)
+pub head-in : (s : List ℕ) (syntax : Syntax) (end at floor : ℕ) → at ≤ end → HeadIn (at + 8) end (headAt s syntax end at floor)
 unfolding headAt
-head-in s explicit end at floor h =
-    first-cases (HeadIn (at + 8) end) Fault (elementRules s explicit end at floor) (lengthHead (at + sizeAt s explicit at) end (vrAt s explicit at) (lengthAt s explicit at)) (λ n. tt)
-    (λ k. let r : sizeAt s explicit at ≤ end - at = ltb-false _ _ (k .0) in
-    let l = size-least s explicit at in
-    length-in (at + 8) (at + sizeAt s explicit at) end (vrAt s explicit at) (lengthAt s explicit at) (omega arith) (omega arith))
+head-in s syntax end at floor h =
+    first-cases (HeadIn (at + 8) end) Fault (elementRules s syntax end at floor) (lengthHead (at + sizeAt s syntax at) end (vrAt s syntax at) (lengthAt s syntax at)) (λ n. tt)
+    (λ k. let r : sizeAt s syntax at ≤ end - at = ltb-false _ _ (k .0) in
+    let l = size-least s syntax at in
+    length-in (at + 8) (at + sizeAt s syntax at) end (vrAt s syntax at) (lengthAt s syntax at) (omega arith) (omega arith))
 
 pub item-head-in : (s : List ℕ) (end at : ℕ) → at ≤ end → HeadIn (at + 8) end (itemHeadAt s end at)
 unfolding itemHeadAt

@@ -6,12 +6,22 @@ use lib.Dec.{ltb, eqb}
 use Rattle.choice.specs.Pick.{pick, both, either, not}
 use Rattle.choice.specs.Rules.{Rule, _⇒_, firstOr}
 use Rattle.octets.specs.Octets.{numberAt}
+use Rattle.headers.specs.declared.Syntax.{Syntax}
+use Rattle.headers.specs.declared.Syntax.the-variants.{Implicit, Explicit}
 use Rattle.headers.specs.declared.Inside.{Inside}
 use Rattle.headers.specs.declared.Head.{Head}
 use Rattle.headers.specs.declared.Head.the-variants.{Fault, Value, Nest}
 use Rattle.headers.specs.declared.Close.{Close}
 use Rattle.headers.specs.declared.Close.the-variants.{Here, Not}
 use Rattle.tags.specs.Table.{SQ, formOf, undefined, implicitVr, differs}
+
+abbrev pub isExplicit : Syntax → Bool
+isExplicit Implicit = false
+isExplicit Explicit = true
+
+-- "1 implicit VR little endian, 2 explicit VR little endian"
+unfoldable pub syntaxOf : ℕ → Syntax
+syntaxOf number = pick (eqb number 2) Explicit Implicit
 
 -- a tag as one number: (gggg,eeee) is 0xggggeeee
 unfoldable pub tagAt : List ℕ → ℕ → ℕ
@@ -25,26 +35,26 @@ abbrev pub formAt : List ℕ → ℕ → ℕ
 formAt s at = formOf (numberAt 2 s (at + 4))
 
 -- the header has a long-form VR; one of group FFFE has none
-abbrev pub longAt : List ℕ → Bool → ℕ → Bool
-longAt s explicit at = both explicit (both (not (eqb (groupAt s at) 0xFFFE)) (eqb (formAt s at) 12))
+abbrev pub longAt : List ℕ → Syntax → ℕ → Bool
+longAt s syntax at = both (isExplicit syntax) (both (not (eqb (groupAt s at) 0xFFFE)) (eqb (formAt s at) 12))
 
-unfoldable pub sizeAt : List ℕ → Bool → ℕ → ℕ
-sizeAt s explicit at = pick (longAt s explicit at) 12 8
+unfoldable pub sizeAt : List ℕ → Syntax → ℕ → ℕ
+sizeAt s syntax at = pick (longAt s syntax at) 12 8
 
-unfoldable pub vrAt : List ℕ → Bool → ℕ → ℕ
-vrAt s explicit at = pick explicit (numberAt 2 s (at + 4)) (implicitVr (tagAt s at) (numberAt 4 s (at + 4)))
+unfoldable pub vrAt : List ℕ → Syntax → ℕ → ℕ
+vrAt s syntax at = pick (isExplicit syntax) (numberAt 2 s (at + 4)) (implicitVr (tagAt s at) (numberAt 4 s (at + 4)))
 
 -- the length: 16 bits behind a short-form VR, else 32
-unfoldable pub lengthAt : List ℕ → Bool → ℕ → ℕ
-lengthAt s explicit at =
-    pick (longAt s explicit at)
+unfoldable pub lengthAt : List ℕ → Syntax → ℕ → ℕ
+lengthAt s syntax at =
+    pick (longAt s syntax at)
     (numberAt 4 s (at + 8))
-    (pick explicit (numberAt 2 s (at + 6)) (numberAt 4 s (at + 4)))
+    (pick (isExplicit syntax) (numberAt 2 s (at + 6)) (numberAt 4 s (at + 4)))
 
 -- an explicit VR is unknown, its two zero bytes are not zero, or it is not the named tag's
-unfoldable pub vrWrong : List ℕ → Bool → ℕ → Bool
-vrWrong s explicit at =
-    both explicit
+unfoldable pub vrWrong : List ℕ → Syntax → ℕ → Bool
+vrWrong s syntax at =
+    both (isExplicit syntax)
     (either (eqb (formAt s at) 0)
     (either (both (eqb (formAt s at) 12) (not (eqb (numberAt 2 s (at + 6)) 0)))
     (differs (tagAt s at) (numberAt 2 s (at + 4)))))
@@ -75,19 +85,19 @@ unfoldable pub lengthHead : ℕ → ℕ → ℕ → ℕ → Head
 lengthHead from end vr length = firstOr Fault (lengthRules from end vr length) (content from end vr length)
 
 -- the rules for the header of an element before those for its length, in their order
-abbrev pub elementRules : List ℕ → Bool → ℕ → ℕ → ℕ → List Rule
-elementRules s explicit end at floor =
-    (ltb (end - at) (sizeAt s explicit at) ⇒ 1)
+abbrev pub elementRules : List ℕ → Syntax → ℕ → ℕ → ℕ → List Rule
+elementRules s syntax end at floor =
+    (ltb (end - at) (sizeAt s syntax at) ⇒ 1)
     ∷ (eqb (groupAt s at) 0xFFFE ⇒ 6)
     ∷ (ltb (tagAt s at) floor ⇒ 3)
-    ∷ (vrWrong s explicit at ⇒ 4)
+    ∷ (vrWrong s syntax at ⇒ 4)
     ∷ []
 
 -- what the header of an element says, whose tag must not be below `floor`
-unfoldable pub headAt : List ℕ → Bool → ℕ → ℕ → ℕ → Head
-headAt s explicit end at floor =
-    firstOr Fault (elementRules s explicit end at floor)
-    (lengthHead (at + sizeAt s explicit at) end (vrAt s explicit at) (lengthAt s explicit at))
+unfoldable pub headAt : List ℕ → Syntax → ℕ → ℕ → ℕ → Head
+headAt s syntax end at floor =
+    firstOr Fault (elementRules s syntax end at floor)
+    (lengthHead (at + sizeAt s syntax at) end (vrAt s syntax at) (lengthAt s syntax at))
 
 -- the rules for the header of an item before those for its length
 abbrev pub itemRules : List ℕ → ℕ → ℕ → List Rule

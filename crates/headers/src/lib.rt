@@ -5,7 +5,14 @@ use tags::SQ;
 ghost use mathlib.Core.Path.{_≡_};
 ghost use Prim.Native.Nat.{_+_, _≤_, _<_};
 ghost use lib.ListN.{length};
-ghost use Rattle.headers.specs.Header.{tagAt, lengthHead, itemHeadAt, closeAt};
+ghost use Rattle.headers.specs.declared.Syntax.the-variants.{Implicit, Explicit};
+ghost use Rattle.headers.specs.Header.{syntaxOf, tagAt, lengthHead, itemHeadAt, closeAt};
+
+// The transfer syntaxes: implicit or explicit VR, each little endian.
+pub enum Syntax {
+    Implicit,
+    Explicit,
+}
 
 // The bytes of a value.
 pub struct Part {
@@ -20,6 +27,13 @@ pub struct Inside {
     pub loose: bool,
 }
 
+// A list or a sequence that is to be read: its syntax, how many sequences within one another it may hold, and where it stands.
+pub struct Scope {
+    pub syntax: Syntax,
+    pub room: usize,
+    pub inside: Inside,
+}
+
 // What a header says: the refusal that it earns, a value, or a sequence or an item that holds more.
 pub enum Head {
     Fault(u8),
@@ -31,6 +45,16 @@ pub enum Head {
 pub enum Close {
     Here(usize),
     Not,
+}
+
+// The syntax of a number: 2 is explicit VR.
+pub fn syntax_of(number: u8) -> Syntax
+    ensures { λ r. ⌜ r ≡ syntaxOf number ⌝ }
+{
+    if number == 2 {
+        return Syntax::Explicit;
+    }
+    Syntax::Implicit
 }
 
 pub fn tag_at(s: &[u8], at: usize) -> usize

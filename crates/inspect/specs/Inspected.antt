@@ -1,9 +1,9 @@
 -- What the exported call answers.
 use Prim.Native.Nat.{ℕ}
-use mathlib.Core.Bool.{true, false}
 use mathlib.Core.List.{List}
-use lib.Dec.{eqb}
-use Rattle.choice.specs.Pick.{pick}
+use lib.Dec.{leb}
+use Rattle.choice.specs.Pick.{pick, both}
+use Rattle.headers.specs.Header.{syntaxOf}
 use Rattle.elements.specs.declared.Read.{Read}
 use Rattle.elements.specs.declared.Read.the-variants.{Past, Refused}
 use Rattle.elements.specs.Reader.{dataSet}
@@ -16,5 +16,4 @@ number (Refused n) = n
 -- the number for the bytes in implicit VR (1) or explicit VR (2); 8 for another syntax
 unfoldable pub inspected : List ℕ → ℕ → ℕ
 inspected s syntax =
-    pick (eqb syntax 1) (number (dataSet s false))
-    (pick (eqb syntax 2) (number (dataSet s true)) 8)
+    pick (both (leb 1 syntax) (leb syntax 2)) (number (dataSet s (syntaxOf syntax))) 8

@@ -18,11 +18,11 @@ fn number_of(read: Read) -> u32
 pub extern "C" fn inspect_data_set(s: &[u8], syntax: u32) -> u32
     ensures { λ r. ⌜ r ≡ inspected (now (s .entry)) syntax ⌝ }
 {
-    if syntax == 1 {
-        return number_of(elements::data_set(s, false));
+    if syntax < 1 {
+        return 8;
     }
-    if syntax == 2 {
-        return number_of(elements::data_set(s, true));
+    if 2 < syntax {
+        return 8;
     }
-    8
+    number_of(elements::data_set(s, headers::syntax_of(syntax as u8)))
 }

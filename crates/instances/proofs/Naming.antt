@@ -12,7 +12,8 @@ use Rattle.octets.specs.Octets.{same}
 use Rattle.uids.specs.Uids.{beginsWith}
 use Rattle.rules.specs.declared.Core.{Core}
 use Rattle.rules.specs.Lists.{any, placeOf}
-use Rattle.rules.specs.Records.{noFilm, boxCount, filmsOf, rootOf, uidOf, isLive, nobody, theSession, theFilm, theBox, boxUids, filmNamed, boxNamed, named}
+use Rattle.rules.specs.declared.Instance.the-variants.{Nobody, TheSession, TheFilm, TheBox}
+use Rattle.rules.specs.Records.{noFilm, boxCount, filmsOf, rootOf, uidOf, isLive, boxUids, filmNamed, boxNamed, named}
 use Rattle.instances.proofs.Places.{any-place, place-passes, never-box, box-found}
 
 -- what stands in the list does not depend on what stands behind it
@@ -22,12 +23,12 @@ getD-within (x ∷ xs) zero d e h = refl
 getD-within (x ∷ xs) (suc i) d e h = getD-within xs i d e (omega arith)
 
 module _ (k : Core) (uid : List ℕ) where
-  pub names-session : both (isLive (k .session)) (same uid (uidOf (k .numbers) (k .session .name))) ≡ true → theSession ≡ named k uid
+  pub names-session : both (isLive (k .session)) (same uid (uidOf (k .numbers) (k .session .name))) ≡ true → TheSession ≡ named k uid
   unfolding named
   names-session e = rw e
 
   module _ (s : both (isLive (k .session)) (same uid (uidOf (k .numbers) (k .session .name))) ≡ false) where
-    pub names-film : (i : ℕ) → i ≡ placeOf (filmNamed (k .numbers) uid) (filmsOf (k .shelf)) → i < length (filmsOf (k .shelf)) → theFilm i ≡ named k uid
+    pub names-film : (i : ℕ) → i ≡ placeOf (filmNamed (k .numbers) uid) (filmsOf (k .shelf)) → i < length (filmsOf (k .shelf)) → TheFilm i ≡ named k uid
     unfolding named
     names-film i at h =
         let inside : placeOf (filmNamed (k .numbers) uid) (filmsOf (k .shelf)) < length (filmsOf (k .shelf)) = omega arith in
@@ -37,11 +38,11 @@ module _ (k : Core) (uid : List ℕ) where
       no-film : any (filmNamed (k .numbers) uid) (filmsOf (k .shelf)) ≡ false
       no-film = any-place (filmNamed (k .numbers) uid) (filmsOf (k .shelf)) ∙ le-ltb _ _ f
 
-      pub names-unrooted : beginsWith (rootOf (k .numbers)) uid ≡ false → nobody ≡ named k uid
+      pub names-unrooted : beginsWith (rootOf (k .numbers)) uid ≡ false → Nobody ≡ named k uid
       unfolding named
       names-unrooted h = rw (s, no-film, never-box (k .numbers) uid (filmsOf (k .shelf)) h)
 
-      pub names-nobody : length (filmsOf (k .shelf)) ≤ placeOf (boxNamed (k .numbers) uid) (filmsOf (k .shelf)) → nobody ≡ named k uid
+      pub names-nobody : length (filmsOf (k .shelf)) ≤ placeOf (boxNamed (k .numbers) uid) (filmsOf (k .shelf)) → Nobody ≡ named k uid
       unfolding named
       names-nobody h = rw (s, no-film, any-place (boxNamed (k .numbers) uid) (filmsOf (k .shelf)), le-ltb _ _ h)
 
@@ -49,7 +50,7 @@ module _ (k : Core) (uid : List ℕ) where
         inside : placeOf (boxNamed (k .numbers) uid) (filmsOf (k .shelf)) < length (filmsOf (k .shelf))
         inside = omega arith
 
-        pub names-box : theBox i p ≡ named k uid
+        pub names-box : TheBox i p ≡ named k uid
         unfolding named
         names-box = rw (s, no-film, any-place (boxNamed (k .numbers) uid) (filmsOf (k .shelf)), lt-ltb _ _ inside, place, at)
 

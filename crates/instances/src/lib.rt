@@ -1,7 +1,10 @@
-// Instances: which class and which instance a UID names.
+// Instances: the UID that a name stands for, made or sent, and which class and which instance a UID names.
 use headers::Part;
+use rules::Class;
 use rules::Core;
 use rules::Film;
+use rules::Instance;
+use rules::Name;
 use rules::Numbers;
 use rules::Operation;
 use rules::Session;
@@ -12,27 +15,40 @@ ghost use Prim.Native.Nat.{_+_, _≤_};
 ghost use lib.ListN.{length, take};
 ghost use Rattle.choice.specs.Pick.{both};
 ghost use Rattle.octets.specs.Octets.{same};
-ghost use Rattle.uids.specs.Uids.{made};
+ghost use Rattle.uids.specs.Uids.{beginsWith, made};
 ghost use Rattle.rules.specs.Bounds.{noneLeft};
 ghost use Rattle.rules.specs.Lists.{placeOf, from};
-ghost use Rattle.rules.specs.Records.{uidOf, isLive, boxUids, filmNamed, boxNamed, named};
+ghost use Rattle.rules.specs.Records.{rootOf, uidOf, isLive, boxUids, filmNamed, boxNamed, named};
 ghost use Rattle.rules.specs.Commands.{uidAt};
-ghost use Rattle.rules.specs.Checks.{verification, boxes, classOf, offers, classPart};
+ghost use Rattle.rules.specs.declared.Class.the-variants.{Verification, Boxes};
+ghost use Rattle.rules.specs.Checks.{classOf, offers, classPart};
 ghost use Rattle.rules.specs.Sound.{coreSound};
 ghost use Rattle.commands.specs.Within.{PartIn};
-ghost use Rattle.instances.specs.Meant.{classMeant, instanceMeant};
 ghost use Rattle.instances.specs.There.{There, SerialsFit, AllFit};
 
-pub enum Class {
-    Verification,
-    Sessions,
-    Films,
-    Boxes,
-    Unknown,
+// Whether a UID begins with the root and a dot.
+pub fn is_rooted(n: Numbers, uid: &[u8]) -> bool
+    ensures { λ r. ⌜ r ≡ beginsWith (rootOf n) (now (uid .entry)) ⌝ }
+{
+    let root = n.root;
+    uids::begins_with(octets::front(&root, n.used as usize), uid)
+}
+
+// Whether a UID is the one that a name stands for.
+pub fn is_named(n: Numbers, name: Name, uid: &[u8]) -> bool
+    ensures { λ r. ⌜ r ≡ same (now (uid .entry)) (uidOf n name) ⌝ }
+{
+    let serial = name.made;
+    if serial.0 == 0 {
+        let text = name.text;
+        return octets::same_bytes(uid, octets::front(&text, name.used as usize));
+    }
+    let root = n.root;
+    making::is_made(octets::front(&root, n.used as usize), serial.0, uid)
 }
 
 pub fn class_of(uid: &[u8]) -> Class
-    ensures { λ r. ⌜ classMeant r ≡ classOf (now (uid .entry)) ⌝ }
+    ensures { λ r. ⌜ r ≡ classOf (now (uid .entry)) ⌝ }
 {
     if octets::same_bytes(uid, b"1.2.840.10008.1.1") {
         return Class::Verification;
@@ -46,12 +62,12 @@ pub fn class_of(uid: &[u8]) -> Class
     if octets::same_bytes(uid, b"1.2.840.10008.5.1.1.4") {
         return Class::Boxes;
     }
-    Class::Unknown
+    Class::UnknownClass
 }
 
 // Verification: C-ECHO.
 fn is_echo(operation: Operation) -> bool
-    ensures { λ r. ⌜ r ≡ offers verification operation ⌝ }
+    ensures { λ r. ⌜ r ≡ offers Verification operation ⌝ }
 {
     match operation {
         Operation::Echo(_) => true,
@@ -64,7 +80,7 @@ fn is_echo(operation: Operation) -> bool
 
 // Image box: N-SET.
 fn is_set(operation: Operation) -> bool
-    ensures { λ r. ⌜ r ≡ offers boxes operation ⌝ }
+    ensures { λ r. ⌜ r ≡ offers Boxes operation ⌝ }
 {
     match operation {
         Operation::Echo(_) => false,
@@ -77,23 +93,15 @@ fn is_set(operation: Operation) -> bool
 
 // Session and film: the four N, all but C-ECHO.
 pub fn offers(class: Class, operation: Operation) -> bool
-    ensures { λ r. ⌜ r ≡ offers (classMeant class) operation ⌝ }
+    ensures { λ r. ⌜ r ≡ offers class operation ⌝ }
 {
     match class {
         Class::Verification => is_echo(operation),
         Class::Sessions => !is_echo(operation),
         Class::Films => !is_echo(operation),
         Class::Boxes => is_set(operation),
-        Class::Unknown => false,
+        Class::UnknownClass => false,
     }
-}
-
-// The instance that a UID names: a film or a box by its place.
-pub enum Whom {
-    Nobody,
-    Session,
-    Film(usize),
-    ImageBox { film: usize, place: usize },
 }
 
 // The first of the UIDs made from a serial on, `count` of them, that is a UID; `count` where none is.
@@ -118,9 +126,9 @@ fn box_place(n: Numbers, f: Film, uid: &[u8]) -> usize
 {
     let root = n.root;
     let layout = f.layout;
-    let count = distinct::box_count(layout) as usize;
+    let count = layouts::box_count(layout) as usize;
     let first = f.first;
-    made_place(naming::front(&root, n.used as usize), first.0, count, uid)
+    made_place(octets::front(&root, n.used as usize), first.0, count, uid)
 }
 
 // Whether a UID names a box of the film.
@@ -129,7 +137,7 @@ fn has_box(n: Numbers, f: Film, uid: &[u8]) -> bool
     ensures { λ r. ⌜ r ≡ boxNamed n (now (uid .entry)) f ⌝ }
 {
     let layout = f.layout;
-    let count = distinct::box_count(layout) as usize;
+    let count = layouts::box_count(layout) as usize;
     box_place(n, f, uid) < count
 }
 
@@ -143,7 +151,7 @@ fn film_named(n: Numbers, films: [Film; 8], count: usize, uid: &[u8]) -> usize
     while i < count {
         let film = xs[i];
         let name = film.name;
-        if naming::is_named(n, name, uid) {
+        if is_named(n, name, uid) {
             return i;
         }
         i += 1;
@@ -175,36 +183,36 @@ fn is_session(n: Numbers, s: Session, uid: &[u8]) -> bool
         return false;
     }
     let name = s.name;
-    naming::is_named(n, name, uid)
+    is_named(n, name, uid)
 }
 
 // The instance that a UID names.
-pub fn named(k: Core, uid: &[u8]) -> Whom
+pub fn named(k: Core, uid: &[u8]) -> Instance
     requires { ⌜ coreSound k ≡ true ⌝ }
-    ensures { λ r. ⌜ (instanceMeant r ≡ named k (now (uid .entry))) × There k r ⌝ }
+    ensures { λ r. ⌜ (r ≡ named k (now (uid .entry))) × There k r ⌝ }
 {
     let numbers = k.numbers;
     let session = k.session;
     if is_session(numbers, session, uid) {
-        return Whom::Session;
+        return Instance::TheSession;
     }
     let shelf = k.shelf;
     let films = shelf.films;
     let count = shelf.count as usize;
     let film = film_named(numbers, films, count, uid);
     if film < count {
-        return Whom::Film(film);
+        return Instance::TheFilm(film);
     }
     // a box's UID was made
-    if !naming::is_rooted(numbers, uid) {
-        return Whom::Nobody;
+    if !is_rooted(numbers, uid) {
+        return Instance::Nobody;
     }
     let other = film_with_box(numbers, films, count, uid);
     if count <= other {
-        return Whom::Nobody;
+        return Instance::Nobody;
     }
     let holder = films[other];
-    Whom::ImageBox {
+    Instance::TheBox {
         film: other,
         place: box_place(numbers, holder, uid),
     }
@@ -217,14 +225,7 @@ pub fn uid_at(c: &[u8], p: Part) -> &[u8]
 {
     let from = p.from;
     let stop = p.stop;
-    naming::unpadded(&c[from..stop])
-}
-
-// What came as data set.
-pub enum Data {
-    Absent,
-    Whole,
-    TooLong,
+    uids::unpadded(&c[from..stop])
 }
 
 pub fn class_part(operation: Operation) -> Part

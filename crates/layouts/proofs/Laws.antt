@@ -10,15 +10,15 @@ use lib.Dec.{eqb, leb}
 use lib.ListN.{length, getD, take, drop, replicate, set, length-append, length-take, length-drop, drop-of-length-le}
 use lib.Seq.{append-snoc, set-at, take-all, take-suc, drop-cons}
 use borrow.Author.Tests.{eq-eqb, ne-eqb, le-leb, lt-leb, leb-true, eqb-true}
-use Rattle.choice.specs.Pick.{pick, both, either}
+use Rattle.choice.specs.Pick.{both, either}
 use Rattle.choice.proofs.Picks.{both-true, both-fails}
 use Rattle.octets.specs.Octets.{same}
 use Rattle.octets.proofs.Same.{same-equal}
 use Rattle.rules.specs.Text.{chars}
 use Rattle.rules.specs.Lists.{filledTo}
-use Rattle.rules.specs.Values.{withoutTrailing, oneToSix, standard, listed, numbersIn, uneven, byColumns, countsIn}
+use Rattle.rules.specs.Values.{withoutTrailing, oneToSix, standard, listed, numbersIn, uneven, kindIn, countsIn}
 use Rattle.rules.specs.Attributes.{layoutFrom}
-use Rattle.promises.proofs.Layouts.{listed-numbers}
+use Rattle.rules.proofs.Formats.{listed-length}
 
 -- STANDARD.
 
@@ -131,7 +131,7 @@ unfolding uneven
 uneven-has t e =
     let a = both-true (begins t) _ e .1 in
     let b = both-true (leb (length t) 15) (listed (drop 4 t)) a in
-    (b .1, omega (arith, listed-numbers (drop 4 t) (b .1) .0, length-drop 4 t), leb-true (length t) 15 (b .0))
+    (b .1, omega (arith, listed-length (drop 4 t) (b .1), length-drop 4 t), leb-true (length t) 15 (b .0))
 
 -- each number is a digit, two places after the one before
 pub number-at : (s : List ℕ) (i : ℕ) → listed s ≡ true → 2 * i < length s → (49 ≤ getD s (2 * i) 0) × (getD (numbersIn s) i 0 ≡ getD s (2 * i) 0 - 48)
@@ -183,14 +183,31 @@ module _ (s t : List ℕ) (e : t ≡ withoutTrailing s) where
     unfolding countsIn
     no-counts k = rw (← e, h, k)
 
-pub layout-told : (by-columns : Bool) {turned lines : ℕ} {counts xs ys : List ℕ} → turned ≡ pick by-columns 1 0 → ys ≡ xs → lines ≡ length xs → counts ≡ filledTo 6 0 xs
-    → record { turned = turned; lines = lines; counts = counts } ≡ layoutFrom by-columns ys
-layout-told by-columns t e n h = rw (t, h, n, e)
+pub layout-told : (v : List ℕ) {kind lines : ℕ} {counts xs : List ℕ} → kind ≡ kindIn v → countsIn v ≡ xs → lines ≡ length xs → counts ≡ filledTo 6 0 xs
+    → record { kind = kind; lines = lines; counts = counts } ≡ layoutFrom (kindIn v) (countsIn v)
+layout-told v k e n h = rw (k, h, n, e)
 
-short-by : (s : List ℕ) (b : Bool) → same (take 4 s) (chars "COL\\") ≡ b → length s < 4 → byColumns s ≡ false
-unfolding chars
-short-by s true e h = absurd (omega (arith, ap length (same-equal _ _ e), length-take 4 s, h))
-short-by s false e h = e
+-- Which format it is.
 
-pub turned-short : (s : List ℕ) → length s < 4 → byColumns s ≡ false
-turned-short s h = short-by s _ refl h
+-- a text of fewer characters begins with no word of four
+short-by : (s word : List ℕ) (b : Bool) → length word ≡ 4 → same (take 4 s) word ≡ b → length s < 4 → b ≡ false
+short-by s word true l e h = absurd (omega (arith, ap length (same-equal _ _ e), length-take 4 s, l, h))
+short-by s word false l e h = refl
+
+module _ (s : List ℕ) where
+  pub kind-short : length s < 4 → 0 ≡ kindIn s
+  unfolding chars kindIn
+  kind-short h = rw (short-by s (chars "ROW\\") _ refl refl h, short-by s (chars "COL\\") _ refl refl h)
+
+  pub kind-row : same (take 4 s) (chars "ROW\\") ≡ true → 1 ≡ kindIn s
+  unfolding kindIn
+  kind-row r = rw r
+
+  module _ (r : same (take 4 s) (chars "ROW\\") ≡ false) where
+    pub kind-col : same (take 4 s) (chars "COL\\") ≡ true → 2 ≡ kindIn s
+    unfolding kindIn
+    kind-col c = rw (r, c)
+
+    pub kind-other : same (take 4 s) (chars "COL\\") ≡ false → 0 ≡ kindIn s
+    unfolding kindIn
+    kind-other c = rw (r, c)

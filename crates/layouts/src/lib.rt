@@ -1,12 +1,12 @@
-// Layouts: the lines of boxes that a film's format gives.
+// Layouts: the lines of boxes that a film's format gives, and how many boxes they have.
 use rules::Layout;
 ghost use mathlib.Core.Bool.{true};
 ghost use mathlib.Core.Path.{_≡_};
-ghost use Prim.Native.Nat.{_≤_};
-ghost use lib.ListN.{length, replicate};
-ghost use Rattle.choice.specs.Pick.{pick};
-ghost use Rattle.rules.specs.Lists.{filledTo};
-ghost use Rattle.rules.specs.Values.{oneToSix, standard, listed, numbersIn, uneven, byColumns, countsIn};
+ghost use Prim.Native.Nat.{_<_, _≤_};
+ghost use lib.ListN.{length, take, replicate};
+ghost use Rattle.rules.specs.Lists.{sum, filledTo};
+ghost use Rattle.rules.specs.Values.{oneToSix, standard, listed, numbersIn, uneven, kindIn, countsIn};
+ghost use Rattle.rules.specs.Records.{boxCount};
 ghost use Rattle.rules.specs.Attributes.{layoutFrom};
 
 fn one_to_six(b: u8) -> bool
@@ -107,44 +107,79 @@ fn listed_counts(s: &[u8]) -> [u8; 6]
     counts
 }
 
-// 1 where the lines are columns, else 0.
-fn turned_in(s: &[u8]) -> u8
-    ensures { λ r. ⌜ r ≡ pick (byColumns (now (s .entry))) 1 0 ⌝ }
+// Which format it is: ROW or COL, else STANDARD.
+fn kind_in(s: &[u8]) -> u8
+    ensures { λ r. ⌜ r ≡ kindIn (now (s .entry)) ⌝ }
 {
     if s.len() < 4 {
         return 0;
     }
-    if octets::same_bytes(&s[0..4], b"COL\\") {
+    let word = &s[0..4];
+    if octets::same_bytes(word, b"ROW\\") {
         return 1;
+    }
+    if octets::same_bytes(word, b"COL\\") {
+        return 2;
     }
     0
 }
 
 // The layout that a format gives, columns before rows; no lines where it is not allowed.
 pub fn layout_in(s: &[u8]) -> Layout
-    ensures { λ r. ⌜ r ≡ layoutFrom (byColumns (now (s .entry))) (countsIn (now (s .entry))) ⌝ }
+    ensures { λ r. ⌜ r ≡ layoutFrom (kindIn (now (s .entry))) (countsIn (now (s .entry))) ⌝ }
 {
-    let turned = turned_in(s);
+    let kind = kind_in(s);
     let t = texts::without_trailing(s);
     if is_standard(t) {
         let lines = t[11] - 48;
         let boxes = t[9] - 48;
         return Layout {
-            turned,
+            kind,
             lines,
             counts: even_counts(lines, boxes),
         };
     }
     if is_uneven(t) {
         return Layout {
-            turned,
+            kind,
             lines: ((t.len() - 3) / 2) as u8,
             counts: listed_counts(&t[4..]),
         };
     }
     Layout {
-        turned,
+        kind,
         lines: 0,
         counts: [0; 6],
     }
+}
+
+fn wide(b: u8) -> u64
+    ensures { λ r. ⌜ (r ≡ b) × (r < 256) ⌝ }
+{
+    b as u64
+}
+
+// The sum of the first n.
+fn sum_of(a: [u8; 6], n: usize) -> u64
+    ensures { λ r. ⌜ (r ≡ sum (take n a)) × (r ≤ 1530) ⌝ }
+{
+    let xs = a;
+    let mut v: u64 = 0;
+    let mut i = 0;
+    while i < 6 {
+        if n <= i {
+            return v;
+        }
+        v = v + wide(xs[i]);
+        i += 1;
+    }
+    v
+}
+
+// How many boxes a film of this layout has.
+pub fn box_count(l: Layout) -> u64
+    ensures { λ r. ⌜ (r ≡ boxCount l) × (r ≤ 1530) ⌝ }
+{
+    let counts = l.counts;
+    sum_of(counts, l.lines as usize)
 }

@@ -1,4 +1,4 @@
--- Bytes laid over a list: they stand there, everything else stays, and two runs laid one after the other are one.
+-- Bytes laid over a list: they stand there, and two runs laid one after the other are one.
 -- Assumes nothing.
 use Prim.Native.Nat.{ℕ, suc, _+_, _-_, _<_, _≤_}
 use mathlib.Core.Path.{_≡_, sym, ap, _∙_}
@@ -30,18 +30,11 @@ module _ (s : List ℕ) (at : ℕ) (bytes : List ℕ) (h : at + length bytes ≤
       rw (added at (length bytes), drop-at (take at s) (bytes ++ drop (at + length bytes) s) at front)
       (take-append-seam bytes (drop (at + length bytes) s))
 
-  -- everything before it stays, and everything behind it
-  pub laid-before : take at (laid s at bytes) ≡ take at s
-  laid-before = take-at (take at s) (bytes ++ drop (at + length bytes) s) at front
-
   head : length (take at s ++ bytes) ≡ at + length bytes
   head = simp (length-append, front)
 
   parted : laid s at bytes ≡ (take at s ++ bytes) ++ drop (at + length bytes) s
   parted = sym (append-assoc (take at s) bytes (drop (at + length bytes) s))
-
-  pub laid-behind : drop (at + length bytes) (laid s at bytes) ≡ drop (at + length bytes) s
-  laid-behind = ap (λ (t : List ℕ). drop (at + length bytes) t) parted ∙ drop-at (take at s ++ bytes) (drop (at + length bytes) s) (at + length bytes) head
 
   -- laid one after the other
   pub laid-then : (more : List ℕ) → laid (laid s at bytes) (at + length bytes) more ≡ laid s at (bytes ++ more)
@@ -88,12 +81,6 @@ stands-byte s at b bytes e =
 
 pub stands-rest : (s : List ℕ) (at b : ℕ) (bytes : List ℕ) → Stands s at (b ∷ bytes) → Stands s (at + 1) bytes
 stands-rest s at b bytes e = stands-second s at (b ∷ []) bytes e
-
--- what stands has room
-pub stands-room : (s : List ℕ) (at b : ℕ) (bytes : List ℕ) → Stands s at (b ∷ bytes) → at + length (b ∷ bytes) ≤ length s
-stands-room s at b bytes e =
-    let l = simp (length-take, length-drop, added at (suc (length bytes))) at (ap length e) in
-    omega arith
 
 -- what was laid in front stands there
 pub laid-front : (s out bytes : List ℕ) (n : ℕ) → out ≡ laid s 0 bytes → n ≡ length bytes → take n out ≡ bytes

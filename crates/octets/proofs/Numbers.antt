@@ -8,7 +8,7 @@ use native.Mathlib.Numerals.{add-one}
 use native.Mathlib.Omega.{arith}
 use lib.ListN.{length, getD}
 use lib.Seq.{drop-cons}
-use Rattle.octets.specs.Octets.{numberAt, bigNumberAt, octets, part, Bytes}
+use Rattle.octets.specs.Octets.{numberAt, octets, part, Bytes}
 use Rattle.octets.proofs.Laid.{Stands, stands-byte, stands-rest}
 
 -- one byte more
@@ -19,13 +19,6 @@ pub number-below : (w : ℕ) (s : List ℕ) (at : ℕ) → Bytes s → numberAt 
 unfolding numberAt
 number-below zero s at o = omega arith
 number-below (suc w) s at o = below-step w (getD s at 0) (numberAt w s (at + 1)) (o at) (number-below w s (at + 1) o)
-
-pub big-below : (w : ℕ) (s : List ℕ) (at : ℕ) → Bytes s → bigNumberAt w s at < 256 ^ w
-unfolding bigNumberAt
-big-below zero s at o = omega arith
-big-below (suc w) s at o =
-    let h = below-step w (getD s (at + w) 0) (bigNumberAt w s at) (o (at + w)) (big-below w s at o) in
-    omega arith
 
 pub octets-length : (w x : ℕ) → length (octets w x) ≡ w
 unfolding octets

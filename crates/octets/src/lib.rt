@@ -1,7 +1,7 @@
-// Octets: numbers of any width in a slice of bytes, comparing two parts, and laying bytes into a slice.
+// Octets: numbers of any width in a slice of bytes, its first bytes, comparing two parts, and laying bytes into a slice.
 ghost use mathlib.Core.Path.{_≡_};
 ghost use Prim.Native.Nat.{_+_, _≤_, _<_, _^_, _%_};
-ghost use lib.ListN.{length};
+ghost use lib.ListN.{length, take};
 ghost use Rattle.octets.specs.Octets.{numberAt, bigNumberAt, octets, laid, same};
 
 fn wide(b: u8) -> u64
@@ -78,6 +78,16 @@ pub fn put(s: &mut [u8], at: usize, bytes: &[u8])
     ensures { λ _. ⌜ now (s .exit) ≡ laid (now (s .entry)) at (now (bytes .entry)) ⌝ }
 {
     bytes::copy(bytes, &mut s[at..]);
+}
+
+// The first n bytes, or all where there are fewer.
+pub fn front(s: &[u8], n: usize) -> &[u8]
+    ensures { λ r. ⌜ now r ≡ take n (now (s .entry)) ⌝ }
+{
+    if n < s.len() {
+        return &s[0..n];
+    }
+    s
 }
 
 // Whether two slices hold the same bytes: lengths first, then from the last byte back, for long UIDs differ at their end.

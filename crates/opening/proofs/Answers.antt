@@ -1,39 +1,34 @@
 -- A call is refused by the number of the first rule that it breaks, or is done: a law for each way out of start, open and close.
 -- Assumes nothing.
 use Prim.Native.Nat.{ℕ, _<_, _≤_, _%_}
-use mathlib.Core.Path.{_≡_, refl, sym, ap, _∙_}
-use mathlib.Core.Bool as bool
+use mathlib.Core.Path.{_≡_, refl, sym, _∙_}
 use mathlib.Core.Bool.{Bool, true, false}
 use mathlib.Core.List.{List, []}
-use lib.Dec.{eqb, ltb}
-use Rattle.uids.specs.Uids.{isUid}
 use native.Mathlib.Omega.{arith}
-use Rattle.rules.specs.Bounds.{leastRoom, mostRoom, rootLimit}
-use Rattle.rules.specs.Records.{isOpen}
-use Rattle.runs.specs.Host.{startHanded, openHanded}
+use lib.Dec.{eqb, ltb}
 use lib.ListN.{length}
-use borrow.Author.Tests.{ne-eqb, le-ltb, ltb-false, eqb-true, not-true, not-false}
+use borrow.Author.Tests.{eq-eqb, ne-eqb, le-ltb, lt-ltb, ltb-false, eqb-true}
 use Rattle.choice.specs.Pick.{pick, both, either, not}
-use Rattle.choice.specs.Rules.{firstOr, firstBroken, numbered}
+use Rattle.choice.specs.Rules.{Rule, firstBroken, numbered}
 use Rattle.choice.proofs.Picks.{either-false, clash}
-use Rattle.verdicts.proofs.Plans.{none-broken}
-use Rattle.feeding.proofs.Feeds.{records-short, records-unsound, records-kept}
-use Rattle.choice.proofs.Broken.{first-by-number}
+use Rattle.choice.proofs.Broken.{first-by-number, first-refused, first-unbroken, none-broken}
+use Rattle.uids.specs.Uids.{isUid}
 use Rattle.strike.specs.Service.{Call, start, opening, close, passes, refuses}
 use Rattle.strike.specs.Machine.{idle, Records, checked, step}
 use Rattle.rules.specs.declared.Core.{Core}
 use Rattle.rules.specs.declared.State.{State}
-use Rattle.rules.specs.Layout.{recordsSize, stateFormat, unpack}
-use Rattle.rules.specs.Sound.{sound}
-use Rattle.rules.specs.Calls.{Handed, badContext, badSyntax, startRules, openRules, closeRules, rulesOf, check, started, opened, closed, printing}
-use Rattle.rules.specs.Outcomes.{recordsIn, written, numberOf, recordsRules, Outcome, changed, unchanged, orUnchanged, starts, opens, closes}
+use Rattle.rules.specs.Bounds.{leastRoom, mostRoom, rootLimit}
+use Rattle.rules.specs.Records.{isOpen}
+use Rattle.rules.specs.Layout.{recordsSize, unpack}
+use Rattle.rules.specs.Calls.{Starting, Opening, handed, badContext, badSyntax, startRules, openRules, rulesOf, check, started, opened, closed, printing}
+use Rattle.rules.specs.Outcomes.{recordsIn, written, numberOf, shortRules, recordsRules, Outcome, changed, unchanged, orUnchanged, called, starts, opens, closes}
+use Rattle.soundness.proofs.Records.{Found}
+use Rattle.runs.specs.Host.{startHanded, openHanded}
 
--- a call that is done leaves no message half collected
-abbrev freshly : Core → List ℕ → Outcome
-freshly k b = record { number = 0; records = written (record { core = k; input = idle }) b }
+-- What start, open and close come to, by the rules for the records and by their own.
 
 -- a call that changes the records or leaves them
-module _ (b : List ℕ) (r : Records Core) (c : Call Handed) where
+module _ (b : List ℕ) (r : Records Core) (c : Call handed) where
   split : (t : Bool) (n : ℕ) → eqb n 0 ≡ t → numberOf (checked printing passes r c .answer) ≡ 0
       → orUnchanged b (checked printing (pick t passes (refuses n)) r c) ≡ pick t (changed b (checked printing passes r c)) (unchanged b n)
   unfolding checked numberOf
@@ -45,72 +40,75 @@ module _ (b : List ℕ) (r : Records Core) (c : Call Handed) where
   unfolding step check
   by-number h d = rw (first-by-number refuses (rulesOf (r .core) c) passes h) (split (eqb (firstBroken (rulesOf (r .core) c)) 0) (firstBroken (rulesOf (r .core) c)) refl d)
 
+module _ (rules : List Rule) (b : List ℕ) (c : Call handed) (all : numbered rules ≡ true) where
+  abbrev before : Records Core
+  before = recordsIn (unpack b) []
+
+  -- refused for the records
+  called-unread : (n : ℕ) → n ≡ firstBroken rules → (n ≡ 0 → ⊥) → unchanged b n ≡ called rules b c
+  called-unread = first-refused (unchanged b) rules _ all
+
+  module _ (unbroken : firstBroken rules ≡ 0) (own : numbered (rulesOf (unpack b .core) c) ≡ true) (answers-0 : numberOf (checked printing passes before c .answer) ≡ 0) where
+    called-by-number : pick (eqb (firstBroken (rulesOf (unpack b .core) c)) 0) (changed b (checked printing passes before c)) (unchanged b (firstBroken (rulesOf (unpack b .core) c))) ≡ called rules b c
+    called-by-number = sym (by-number b before c own answers-0) ∙ first-unbroken (unchanged b) rules _ all unbroken
+
+    called-refused : (n : ℕ) → n ≡ firstBroken (rulesOf (unpack b .core) c) → (n ≡ 0 → ⊥) → unchanged b n ≡ called rules b c
+    called-refused n e f = rw (← called-by-number, ← e, ne-eqb n 0 f)
+
+    called-done : firstBroken (rulesOf (unpack b .core) c) ≡ 0 → changed b (checked printing passes before c) ≡ called rules b c
+    called-done e = rw (← called-by-number, e)
+
+-- a call that is done leaves no message half collected
+abbrev freshly : Core → List ℕ → Outcome
+freshly k b = record { number = 0; records = written (record { core = k; input = idle }) b }
+
 -- Start.
 
-module _ (b : List ℕ) (h : Handed) (long : recordsSize ≤ length b) where
-  start-by-number : starts b h ≡ pick (eqb (firstBroken (startRules h)) 0) (freshly (started h) b) (unchanged b (firstBroken (startRules h)))
-  unfolding starts checked numberOf
-  start-by-number = rw (le-ltb (length b) recordsSize long) (by-number b (recordsIn (unpack b) []) (start h) refl refl)
+module _ (b : List ℕ) (h : Starting) where
+  pub start-short : length b < recordsSize → unchanged b 2 ≡ starts b h
+  unfolding starts
+  start-short short = called-unread (shortRules b) b (start h) refl 2 (rw (lt-ltb (length b) recordsSize short)) (λ e. omega (arith, e))
 
-  pub start-refused : (n : ℕ) → n ≡ firstBroken (startRules h) → (n ≡ 0 → ⊥) → unchanged b n ≡ starts b h
-  start-refused n e f = rw (start-by-number, ← e, ne-eqb n 0 f)
+  module _ (long : recordsSize ≤ length b) where
+    unbroken : firstBroken (shortRules b) ≡ 0
+    unbroken = rw (le-ltb (length b) recordsSize long)
 
-  pub start-done : firstBroken (startRules h) ≡ 0 → freshly (started h) b ≡ starts b h
-  start-done e = rw (start-by-number, e)
+    pub start-refused : (n : ℕ) → n ≡ firstBroken (startRules h) → (n ≡ 0 → ⊥) → unchanged b n ≡ starts b h
+    unfolding starts checked numberOf
+    start-refused = called-refused (shortRules b) b (start h) refl unbroken refl refl
 
-pub open-short : (b : List ℕ) (h : Handed) → length b < recordsSize → unchanged b 2 ≡ opens b h
+    pub start-done : firstBroken (startRules h) ≡ 0 → freshly (started h) b ≡ starts b h
+    unfolding starts checked numberOf
+    start-done = called-done (shortRules b) b (start h) refl unbroken refl refl
+
+-- Open and close, of records that are accepted or not.
+
+pub open-unread : (b : List ℕ) (h : Opening) (n : ℕ) → n ≡ firstBroken (recordsRules b) → (n ≡ 0 → ⊥) → unchanged b n ≡ opens b h
 unfolding opens
-open-short b h short = sym (records-short (unchanged b) b _ short)
+open-unread b h = called-unread (recordsRules b) b (opening h) refl
 
-pub close-short : (b : List ℕ) (h : Handed) → length b < recordsSize → unchanged b 2 ≡ closes b h
+pub close-unread : (b : List ℕ) (n : ℕ) → n ≡ firstBroken (recordsRules b) → (n ≡ 0 → ⊥) → unchanged b n ≡ closes b
 unfolding closes
-close-short b h short = sym (records-short (unchanged b) b _ short)
+close-unread b = called-unread (recordsRules b) b close refl
 
--- The records as the code has them: the state that it read, and what it was told of its rules.
-
-module _ (b : List ℕ) (h : Handed) (s : State) (t : Bool) (read : s ≡ stateFormat .read b 0) (told : t ≡ sound s) (long : recordsSize ≤ length b) where
-  in-order : sound (unpack b) ≡ t
-  unfolding unpack
-  in-order = sym (told ∙ ap sound read)
-
-  core-read : unpack b .core ≡ s .core
-  unfolding unpack
-  core-read = sym (ap (λ (x : State). x .core) read)
-
-  unsound : {A : Type 0} (f : ℕ → A) (x : A) → bool.not t ≡ true → f 1 ≡ firstOr f (recordsRules b) x
-  unsound f x e = sym (records-unsound f b x long (in-order ∙ not-true t e))
-
-  -- Open.
-
-  pub open-unsound : bool.not t ≡ true → unchanged b 1 ≡ opens b h
-  unfolding opens
-  open-unsound e = unsound (unchanged b) _ e
-
-  open-by-number : bool.not t ≡ false → opens b h ≡ pick (eqb (firstBroken (openRules (s .core) h)) 0) (freshly (opened (s .core) h) b) (unchanged b (firstBroken (openRules (s .core) h)))
+module _ {b : List ℕ} {s : State} (f : Found b s) where
+  pub open-refused : (h : Opening) (n : ℕ) → n ≡ firstBroken (openRules (s .core) h) → (n ≡ 0 → ⊥) → unchanged b n ≡ opens b h
   unfolding opens checked numberOf
-  open-by-number e = rw (← core-read) (records-kept (unchanged b) b _ long (in-order ∙ not-false t e) ∙ by-number b (recordsIn (unpack b) []) (opening h) refl refl)
+  open-refused h n e = called-refused (recordsRules b) b (opening h) refl (f .unbroken) refl refl n (rw (f .same) at e)
 
-  pub open-refused : bool.not t ≡ false → (n : ℕ) → n ≡ firstBroken (openRules (s .core) h) → (n ≡ 0 → ⊥) → unchanged b n ≡ opens b h
-  open-refused e n g f = rw (open-by-number e, ← g, ne-eqb n 0 f)
+  pub open-done : (h : Opening) → firstBroken (openRules (s .core) h) ≡ 0 → freshly (opened (s .core) h) b ≡ opens b h
+  unfolding opens checked numberOf
+  open-done h e = rw (f .same) (called-done (recordsRules b) b (opening h) refl (f .unbroken) refl refl (rw (f .same) at e))
 
-  pub open-done : bool.not t ≡ false → firstBroken (openRules (s .core) h) ≡ 0 → freshly (opened (s .core) h) b ≡ opens b h
-  open-done e g = rw (open-by-number e, g)
-
-  -- Close.
-
-  pub close-unsound : bool.not t ≡ true → unchanged b 1 ≡ closes b h
-  unfolding closes
-  close-unsound e = unsound (unchanged b) _ e
-
-  close-by-number : bool.not t ≡ false → closes b h ≡ pick (eqb (firstBroken (closeRules (s .core))) 0) (freshly (closed (s .core)) b) (unchanged b (firstBroken (closeRules (s .core))))
+  pub close-refused : s .core .opened .live ≡ 0 → unchanged b 4 ≡ closes b
   unfolding closes checked numberOf
-  close-by-number e = rw (← core-read) (records-kept (unchanged b) b _ long (in-order ∙ not-false t e) ∙ by-number b (recordsIn (unpack b) []) (close h) refl refl)
+  close-refused e =
+      called-refused (recordsRules b) b close refl (f .unbroken) refl refl 4
+      (rw (eq-eqb (unpack b .core .opened .live) 0 (rw (f .same) at e))) (λ z. omega (arith, z))
 
-  pub close-refused : bool.not t ≡ false → s .core .opened .live ≡ 0 → unchanged b 4 ≡ closes b h
-  close-refused e f = rw (close-by-number e, f)
-
-  pub close-done : bool.not t ≡ false → (s .core .opened .live ≡ 0 → ⊥) → freshly (closed (s .core)) b ≡ closes b h
-  close-done e f = rw (close-by-number e, ne-eqb (s .core .opened .live) 0 f)
+  pub close-done : (s .core .opened .live ≡ 0 → ⊥) → freshly (closed (s .core)) b ≡ closes b
+  unfolding closes checked numberOf
+  close-done d = rw (f .same) (called-done (recordsRules b) b close refl (f .unbroken) refl refl (rw (ne-eqb (unpack b .core .opened .live) 0 (rw (f .same) at d))))
 
 pub either-none : (t : Bool) → either t false ≡ t
 either-none true = refl

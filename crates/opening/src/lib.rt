@@ -1,19 +1,45 @@
 // Opening: start, open and close.
+use records::RECORDS;
 use rules::Core;
+use rules::Input;
 use rules::Numbers;
 use rules::Opened;
+use rules::State;
 ghost use mathlib.Core.Path.{_≡_};
 ghost use Prim.Native.Nat.{_<_, _≤_};
 ghost use lib.ListN.{length};
 ghost use Rattle.choice.specs.Rules.{firstBroken};
 ghost use Rattle.rules.specs.Bounds.{rootLimit};
 ghost use Rattle.rules.specs.Lists.{filledTo};
-ghost use Rattle.rules.specs.Calls.{badRoot, badNumber, badContext, badSyntax, startRules, openRules, started, opened};
+ghost use Rattle.strike.specs.Machine.{idle};
+ghost use Rattle.rules.specs.Calls.{badRoot, badNumber, messageWrong, badContext, badSyntax, startRules, openRules, started, opened};
+ghost use Rattle.rules.specs.Layout.{recordsSize};
+ghost use Rattle.rules.specs.Outcomes.{inputHeld, written};
 ghost use Rattle.runs.specs.Host.{startHanded, openHanded};
 ghost use Rattle.runs.specs.Contracts.{StartMet, OpenMet, CloseMet};
 
-// The bytes of the records.
-const RECORDS: usize = 7080;
+// The records afterwards.
+
+pub fn no_input() -> Input
+    ensures { λ r. ⌜ r ≡ inputHeld idle ⌝ }
+{
+    Input {
+        phase: 0,
+        used: 0,
+        got: 0,
+        command: [0; 1024],
+    }
+}
+
+// Another core with no message half collected.
+pub fn put_core(records: &mut [u8], core: Core)
+    requires { ⌜ recordsSize ≤ length (now records) ⌝ }
+    ensures { λ _. ⌜ now (records .exit) ≡ written (record { core = core; input = idle }) (now (records .entry)) ⌝ }
+{
+    let input = no_input();
+    let state = State { core, input };
+    records::put_state(records, 0, state);
+}
 
 // Start.
 
@@ -98,11 +124,31 @@ pub fn start(records: &mut [u8], root: &[u8], serial: u32, picture: u32) -> u32
         return refusal;
     }
     let core = started(root, serial, picture);
-    feeding::put_core(records, core);
+    put_core(records, core);
     0
 }
 
 // Open.
+
+// "the message buffer is out of limits or, while open, of another length"
+pub fn message_wrong(k: Core, room: usize) -> bool
+    ensures { λ r. ⌜ r ≡ messageWrong k room ⌝ }
+{
+    if room < 4096 {
+        return true;
+    }
+    if 16777216 < room {
+        return true;
+    }
+    let opened = k.opened;
+    if opened.live == 0 {
+        return false;
+    }
+    if room == opened.room as usize {
+        return false;
+    }
+    true
+}
 
 fn context_bad(n: u32) -> bool
     ensures { λ r. ⌜ r ≡ badContext n ⌝ }
@@ -128,7 +174,7 @@ fn syntax_bad(n: u32) -> bool
 fn open_refusal(k: Core, room: usize, context: u32, syntax: u32) -> u32
     ensures { λ r. ⌜ r ≡ firstBroken (openRules k (openHanded context syntax room)) ⌝ }
 {
-    if feeding::message_wrong(k, room) {
+    if message_wrong(k, room) {
         return 2;
     }
     if context_bad(context) {
@@ -154,20 +200,18 @@ fn opened(k: Core, room: usize, context: u32, syntax: u32) -> Core
 pub fn open(records: &mut [u8], message: &[u8], context: u32, syntax: u32) -> u32
     ensures { λ r. ⌜ OpenMet (now (records .entry)) (now (message .entry)) context syntax r (now (records .exit)) ⌝ }
 {
-    if records.len() < RECORDS {
-        return 2;
+    let found = soundness::unpack_checked(records);
+    if found.refusal != 0 {
+        return found.refusal;
     }
-    let state = records::state_at(records, 0);
-    if !soundness::state_sound(state) {
-        return 1;
-    }
+    let state = found.state;
     let core = state.core;
     let refusal = open_refusal(core, message.len(), context, syntax);
     if refusal != 0 {
         return refusal;
     }
     let now_open = opened(core, message.len(), context, syntax);
-    feeding::put_core(records, now_open);
+    put_core(records, now_open);
     0
 }
 
@@ -176,19 +220,17 @@ pub fn open(records: &mut [u8], message: &[u8], context: u32, syntax: u32) -> u3
 pub fn close(records: &mut [u8]) -> u32
     ensures { λ r. ⌜ CloseMet (now (records .entry)) r (now (records .exit)) ⌝ }
 {
-    if records.len() < RECORDS {
-        return 2;
+    let found = soundness::unpack_checked(records);
+    if found.refusal != 0 {
+        return found.refusal;
     }
-    let state = records::state_at(records, 0);
-    if !soundness::state_sound(state) {
-        return 1;
-    }
+    let state = found.state;
     let core = state.core;
     let opened = core.opened;
     if opened.live == 0 {
         return 4;
     }
     let left = shelves::closed(core);
-    feeding::put_core(records, left);
+    put_core(records, left);
     0
 }

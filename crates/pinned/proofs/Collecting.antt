@@ -7,11 +7,16 @@ use mathlib.Core.List.{List, [], _∷_, _++_, map}
 use Prim.Native.Nat.{ℕ}
 use lib.ListN.{replicate, take}
 use Rattle.choice.specs.Pick.{pick}
-use Rattle.strike.specs.Service.{Reading, unreadable, alone, withData, DataSet, noData, whole, tooLong}
+use Rattle.strike.specs.declared.Reading.{Reading}
+use Rattle.strike.specs.declared.Reading.the-variants.{NotReadable, Alone, WithData}
+use Rattle.strike.specs.declared.Came.{Came}
+use Rattle.strike.specs.declared.Came.the-variants.{Absent, Whole, TooLong}
+use Rattle.strike.specs.Service.{DataSet, noData}
 use Rattle.strike.specs.Machine.{Fragment, command, dataset, headerWrong, fragmentIn, Input, idle, inCommand, skippingCommand, inData, skippingData, Outcome, ignores, waits, drops, asks, collect, laidBy, Answer, refused, done, told, ignored, wait, dropped, failure, success}
 use Rattle.strike.specs.Messages.{mayBegin, unfinished, Role, outside, begins, continues, ends, roleOfFragment, Count, countAfter, messageOf, cutBy, struck, Fate, succeeded, failed, wasDropped, wasCutOff, unsettled, strikeable, says, isOf}
 use Rattle.rules.proofs.Book.{theBook}
 use Rattle.rules.proofs.Stage.{Example, gives, AllHold}
+use Rattle.strike.proofs.Opened.{theMessages}
 
 abbrev each : {A : Type 0} → (A → Bool) → List A → List ℕ
 each test xs = map (λ x. pick (test x) 1 0) xs
@@ -27,10 +32,13 @@ inputNumbers skippingCommand = 2 ∷ []
 inputNumbers (inData c d) = 3 ∷ (c ++ d)
 inputNumbers (skippingData c) = 4 ∷ c
 
+abbrev cameNumber : Came → ℕ
+cameNumber Absent = 0
+cameNumber Whole = 1
+cameNumber TooLong = 2
+
 abbrev dataNumbers : DataSet → List ℕ
-dataNumbers noData = 0 ∷ []
-dataNumbers (whole d) = 1 ∷ d
-dataNumbers tooLong = 2 ∷ []
+dataNumbers d = cameNumber (d .came) ∷ d .bytes
 
 -- ignored 18, wait 16 and the state, dropped 17, asked 19 with command and data
 abbrev outcomeNumbers : Outcome → List ℕ
@@ -48,20 +56,20 @@ inEach reading f = met reading f idle ++ (met reading f (inCommand (5 ∷ [])) +
 
 -- how a command of so many bytes goes on, by its last fragment or not
 abbrev gathered : ℕ → Bool → List ℕ
-gathered n last = take 2 (met alone (command last (replicate n 1)) idle)
+gathered n last = take 2 (met Alone (command last (replicate n 1)) idle)
 
 abbrev collected : List Example
 collected =
     -- a command fragment, not the last; the last, by what the command says
-    gives (inEach alone (command false (7 ∷ []))) (16 ∷ 1 ∷ 7 ∷ 16 ∷ 1 ∷ 5 ∷ 7 ∷ 16 ∷ 2 ∷ 16 ∷ 1 ∷ 7 ∷ 16 ∷ 1 ∷ 7 ∷ [])
-    ∷ gives (inEach alone (command true (7 ∷ []))) (19 ∷ 7 ∷ 0 ∷ 19 ∷ 5 ∷ 7 ∷ 0 ∷ 17 ∷ 19 ∷ 7 ∷ 0 ∷ 19 ∷ 7 ∷ 0 ∷ [])
-    ∷ gives (inEach withData (command true (7 ∷ []))) (16 ∷ 3 ∷ 7 ∷ 16 ∷ 3 ∷ 5 ∷ 7 ∷ 17 ∷ 16 ∷ 3 ∷ 7 ∷ 16 ∷ 3 ∷ 7 ∷ [])
-    ∷ gives (inEach unreadable (command true (7 ∷ []))) (17 ∷ 17 ∷ 17 ∷ 17 ∷ 17 ∷ [])
+    gives (inEach Alone (command false (7 ∷ []))) (16 ∷ 1 ∷ 7 ∷ 16 ∷ 1 ∷ 5 ∷ 7 ∷ 16 ∷ 2 ∷ 16 ∷ 1 ∷ 7 ∷ 16 ∷ 1 ∷ 7 ∷ [])
+    ∷ gives (inEach Alone (command true (7 ∷ []))) (19 ∷ 7 ∷ 0 ∷ 19 ∷ 5 ∷ 7 ∷ 0 ∷ 17 ∷ 19 ∷ 7 ∷ 0 ∷ 19 ∷ 7 ∷ 0 ∷ [])
+    ∷ gives (inEach WithData (command true (7 ∷ []))) (16 ∷ 3 ∷ 7 ∷ 16 ∷ 3 ∷ 5 ∷ 7 ∷ 17 ∷ 16 ∷ 3 ∷ 7 ∷ 16 ∷ 3 ∷ 7 ∷ [])
+    ∷ gives (inEach NotReadable (command true (7 ∷ []))) (17 ∷ 17 ∷ 17 ∷ 17 ∷ 17 ∷ [])
     -- a data fragment that fits, and one past the message buffer
-    ∷ gives (inEach alone (dataset false (7 ∷ []))) (18 ∷ 17 ∷ 17 ∷ 16 ∷ 3 ∷ 5 ∷ 6 ∷ 7 ∷ 16 ∷ 4 ∷ 5 ∷ [])
-    ∷ gives (inEach alone (dataset true (7 ∷ []))) (18 ∷ 17 ∷ 17 ∷ 19 ∷ 5 ∷ 1 ∷ 6 ∷ 7 ∷ 19 ∷ 5 ∷ 2 ∷ [])
-    ∷ gives (inEach alone (dataset false (7 ∷ 8 ∷ []))) (18 ∷ 17 ∷ 17 ∷ 16 ∷ 4 ∷ 5 ∷ 16 ∷ 4 ∷ 5 ∷ [])
-    ∷ gives (inEach alone (dataset true (7 ∷ 8 ∷ []))) (18 ∷ 17 ∷ 17 ∷ 19 ∷ 5 ∷ 2 ∷ 19 ∷ 5 ∷ 2 ∷ [])
+    ∷ gives (inEach Alone (dataset false (7 ∷ []))) (18 ∷ 17 ∷ 17 ∷ 16 ∷ 3 ∷ 5 ∷ 6 ∷ 7 ∷ 16 ∷ 4 ∷ 5 ∷ [])
+    ∷ gives (inEach Alone (dataset true (7 ∷ []))) (18 ∷ 17 ∷ 17 ∷ 19 ∷ 5 ∷ 1 ∷ 6 ∷ 7 ∷ 19 ∷ 5 ∷ 2 ∷ [])
+    ∷ gives (inEach Alone (dataset false (7 ∷ 8 ∷ []))) (18 ∷ 17 ∷ 17 ∷ 16 ∷ 4 ∷ 5 ∷ 16 ∷ 4 ∷ 5 ∷ [])
+    ∷ gives (inEach Alone (dataset true (7 ∷ 8 ∷ []))) (18 ∷ 17 ∷ 17 ∷ 19 ∷ 5 ∷ 2 ∷ 19 ∷ 5 ∷ 2 ∷ [])
     -- "Command set 1,024 bytes"
     ∷ gives (gathered 1024 false ++ (gathered 1025 false ++ (gathered 1024 true ++ gathered 1025 true))) (16 ∷ 1 ∷ 16 ∷ 2 ∷ 19 ∷ 1 ∷ 17 ∷ [])
     -- "Data lies in the message buffer from its start"; past it nothing is written
@@ -137,5 +145,5 @@ messages =
     ∷ []
 
 pub messages-hold : AllHold messages
-unfolding theBook mayBegin unfinished roleOfFragment countAfter messageOf cutBy struck strikeable says isOf
+unfolding theBook theMessages
 messages-hold = (refl, (refl, (refl, (refl, (refl, (refl, (refl, (refl, tt))))))))

@@ -2,7 +2,7 @@
 -- Assumes nothing.
 use mathlib.Core.Path.{refl}
 use mathlib.Core.List.{List, [], _∷_, _++_, map}
-use Prim.Native.Nat.{ℕ, _+_, _%_}
+use Prim.Native.Nat.{ℕ, zero, suc, _+_, _*_, _%_}
 use lib.ListN.{length, getD, take, drop, replicate}
 use Rattle.strike.specs.Machine.{idle, inData}
 use Rattle.rules.specs.declared.Name.{Name}
@@ -22,48 +22,144 @@ use Rattle.rules.specs.Outcomes.{coreWritten}
 use Rattle.rules.proofs.Book.{theBook}
 use Rattle.rules.proofs.Stage.{Example, gives, AllHold}
 
--- records of which each byte is its own place, but for multiples of 256
-abbrev unpacked : State
-unpacked = unpack (map (λ place. place % 256) (from 0 7080))
+-- Widths are written out here, and not taken from the book's sizes, so that a wrong format is noticed: of each field how many
+-- bytes are looked at, the first element's of an array, and how many there are up to the next.
+abbrev Width : Type 0
+Width = ℕ × ℕ
 
--- made, used, how many bytes of text there are, the first of them
+abbrev whole : ℕ → Width
+whole n = (n, n)
+
+abbrev nameWidths : List Width
+nameWidths = whole 4 ∷ whole 1 ∷ (1, 64) ∷ []
+
+abbrev numbersWidths : List Width
+numbersWidths = whole 1 ∷ (1, 40) ∷ whole 5 ∷ whole 5 ∷ whole 2 ∷ []
+
+abbrev sessionWidths : List Width
+sessionWidths = whole 1 ∷ (nameWidths ++ (whole 1 ∷ whole 1 ∷ whole 1 ∷ whole 1 ∷ whole 1 ∷ (1, 64) ∷ []))
+
+abbrev layoutWidths : List Width
+layoutWidths = whole 1 ∷ whole 1 ∷ map whole (replicate 6 1)
+
+-- of the boxes the second is looked at, behind the first of six bytes
+abbrev filmWidths : List Width
+filmWidths = nameWidths ++ (layoutWidths ++ (whole 1 ∷ whole 1 ∷ (4, 4 + 6) ∷ whole 1 ∷ whole 1 ∷ (4, 4 + 34 * 6) ∷ []))
+
+-- from the second picture on
+abbrev entryWidths : List Width
+entryWidths = (4, 35 * 4) ∷ whole 2 ∷ whole 1 ∷ nameWidths
+
+abbrev openedWidths : List Width
+openedWidths = whole 1 ∷ whole 1 ∷ whole 1 ∷ whole 4 ∷ []
+
+abbrev inputWidths : List Width
+inputWidths = whole 1 ∷ whole 2 ∷ whole 4 ∷ (1, 1024) ∷ []
+
+abbrev size : List Width → ℕ
+size [] = 0
+size (w ∷ ws) = w .1 + size ws
+
+-- Where each part begins, and the end.
+
+abbrev sessionPlace : ℕ
+sessionPlace = size numbersWidths
+
+abbrev shelfPlace : ℕ
+shelfPlace = sessionPlace + size sessionWidths
+
+abbrev queuePlace : ℕ
+queuePlace = shelfPlace + 1 + 8 * size filmWidths
+
+abbrev openedPlace : ℕ
+openedPlace = queuePlace + 1 + 16 * (4 + size entryWidths)
+
+abbrev inputPlace : ℕ
+inputPlace = openedPlace + size openedWidths
+
+abbrev end : ℕ
+end = inputPlace + size inputWidths
+
+-- fields one behind the other: the place of each, and how many bytes are looked at
+abbrev placed : ℕ → List Width → List (ℕ × ℕ)
+placed at [] = []
+placed at (w ∷ ws) = (at, w .0) ∷ placed (at + w .1) ws
+
+-- the second film and the second entry stand for all
+abbrev fields : List (ℕ × ℕ)
+fields =
+    placed 0 numbersWidths
+    ++ (placed sessionPlace sessionWidths
+    ++ ((shelfPlace, 1) ∷ (placed (shelfPlace + 1 + size filmWidths) filmWidths
+    ++ ((queuePlace, 1) ∷ (placed (queuePlace + 1 + (4 + size entryWidths) + 4) entryWidths
+    ++ (placed openedPlace openedWidths
+    ++ placed inputPlace inputWidths))))))
+
+-- Their values.
+
 abbrev name : Name → List ℕ
-name n = n .made .0 ∷ n .used ∷ length (n .text) ∷ take 1 (n .text)
+name n = n .made .0 ∷ n .used ∷ take 1 (n .text)
 
 abbrev numbers : Numbers → List ℕ
-numbers n = n .used ∷ length (n .root) ∷ getD (n .root) 0 0 ∷ n .serial ∷ n .picture ∷ n .ticket ∷ []
+numbers n = n .used ∷ getD (n .root) 0 0 ∷ n .serial ∷ n .picture ∷ n .ticket ∷ []
 
 abbrev session : Session → List ℕ
-session s = (s .live ∷ name (s .name)) ++ (s .copies ∷ s .priority ∷ s .medium ∷ s .destination ∷ s .used ∷ length (s .label) ∷ take 1 (s .label))
+session s = (s .live ∷ name (s .name)) ++ (s .copies ∷ s .priority ∷ s .medium ∷ s .destination ∷ s .used ∷ take 1 (s .label))
 
 abbrev box : ImageBox → List ℕ
 box b = b .position ∷ b .polarity ∷ b .picture .0 ∷ []
 
 abbrev film : Film → List ℕ
-film f = name (f .name) ++ ((f .layout .turned ∷ f .layout .lines ∷ f .layout .counts) ++ ((f .orientation ∷ f .magnification ∷ f .first .0 ∷ length (f .boxes) ∷ []) ++ box (getD (f .boxes) 1 noBox)))
+film f = name (f .name) ++ ((f .layout .kind ∷ f .layout .lines ∷ f .layout .counts) ++ ((f .orientation ∷ f .magnification ∷ f .first .0 ∷ []) ++ box (getD (f .boxes) 1 noBox)))
 
 abbrev entry : Entry → List ℕ
-entry e = (length (e .pictures) ∷ getD (e .pictures) 1 (record { 0 = 0 }) .0 ∷ e .ticket ∷ e .copies ∷ []) ++ name (e .film)
+entry e = (getD (e .pictures) 1 (record { 0 = 0 }) .0 ∷ e .ticket ∷ e .copies ∷ []) ++ name (e .film)
 
 abbrev opened : Opened → List ℕ
 opened o = o .live ∷ o .context ∷ o .syntax ∷ o .room ∷ []
 
 abbrev input : Input → List ℕ
-input i = i .phase ∷ i .used ∷ i .got ∷ take 2 (i .command)
+input i = i .phase ∷ i .used ∷ i .got ∷ take 1 (i .command)
 
--- the second film and the second entry stand for all
+abbrev filmOf : State → Film
+filmOf s = getD (s .core .shelf .films) 1 noFilm
+
+abbrev entryOf : State → Entry
+entryOf s = getD (s .core .queue .entries) 1 noEntry
+
+abbrev values : State → List ℕ
+values s =
+    numbers (s .core .numbers)
+    ++ (session (s .core .session)
+    ++ ((s .core .shelf .count ∷ film (filmOf s))
+    ++ ((s .core .queue .count ∷ entry (entryOf s))
+    ++ (opened (s .core .opened)
+    ++ input (s .input)))))
+
+-- Records of which each byte is its own place, but for multiples of 256.
+
+abbrev unpacked : State
+unpacked = unpack (map (λ place. place % 256) (from 0 end))
+
+-- the number that so many of these bytes are, the least first
+abbrev littleEndian : ℕ → ℕ → ℕ
+littleEndian place zero = 0
+littleEndian place (suc bytes) = place % 256 + 256 * littleEndian (place + 1) bytes
+
+abbrev lengths : State → List ℕ
+lengths s =
+    length (s .core .numbers .root) ∷ length (s .core .session .name .text) ∷ length (s .core .session .label) ∷ length (s .core .shelf .films)
+    ∷ length (filmOf s .boxes) ∷ length (s .core .queue .entries) ∷ length (entryOf s .pictures) ∷ length (s .input .command) ∷ []
+
 abbrev places : List Example
 places =
-    gives (numbers (unpacked .core .numbers)) (0 ∷ 40 ∷ 1 ∷ 0x2D2C2B2A29 ∷ 0x3231302F2E ∷ 0x3433 ∷ [])
-    ∷ gives (session (unpacked .core .session)) (53 ∷ 0x39383736 ∷ 58 ∷ 64 ∷ 59 ∷ 123 ∷ 124 ∷ 125 ∷ 126 ∷ 127 ∷ 64 ∷ 128 ∷ [])
-    ∷ gives (unpacked .core .shelf .count ∷ length (unpacked .core .shelf .films) ∷ film (getD (unpacked .core .shelf .films) 1 noFilm)) (192 ∷ 8 ∷ 0xEFEEEDEC ∷ 0xF0 ∷ 64 ∷ 0xF1 ∷ 0x31 ∷ 0x32 ∷ 0x33 ∷ 0x34 ∷ 0x35 ∷ 0x36 ∷ 0x37 ∷ 0x38 ∷ 0x39 ∷ 0x3A ∷ 0x3E3D3C3B ∷ 36 ∷ 0x45 ∷ 0x46 ∷ 0x4A494847 ∷ [])
-    ∷ gives (unpacked .core .queue .count ∷ length (unpacked .core .queue .entries) ∷ entry (getD (unpacked .core .queue .entries) 1 noEntry)) (0x19 ∷ 16 ∷ 36 ∷ 0xF9F8F7F6 ∷ 0x8382 ∷ 0x84 ∷ 0x88878685 ∷ 0x89 ∷ 64 ∷ 0x8A ∷ [])
-    ∷ gives (opened (unpacked .core .opened) ++ input (unpacked .input)) (0x9A ∷ 0x9B ∷ 0x9C ∷ 0xA09F9E9D ∷ 0xA1 ∷ 0xA3A2 ∷ 0xA7A6A5A4 ∷ 0xA8 ∷ 0xA9 ∷ [])
+    gives (values unpacked) (map (λ field. littleEndian (field .0) (field .1)) fields)
+    ∷ gives (lengths unpacked) (40 ∷ 64 ∷ 64 ∷ 8 ∷ 36 ∷ 16 ∷ 36 ∷ 1024 ∷ [])
     ∷ []
 
 pub places-hold : AllHold places
 unfolding theBook
-places-hold = (refl, (refl, (refl, (refl, (refl, tt)))))
+places-hold = (refl, (refl, tt))
 
 -- Records of which each field holds another number, packed.
 
@@ -73,7 +169,7 @@ nameOf n = record { made = record { 0 = n }; used = n + 1; text = filledTo 64 0 
 abbrev secondFilm : Film
 secondFilm = record {
   name = nameOf 17;
-  layout = record { turned = 20; lines = 21; counts = 22 ∷ 23 ∷ 24 ∷ 25 ∷ 26 ∷ 27 ∷ [] };
+  layout = record { kind = 20; lines = 21; counts = 22 ∷ 23 ∷ 24 ∷ 25 ∷ 26 ∷ 27 ∷ [] };
   orientation = 28;
   magnification = 29;
   first = record { 0 = 30 };
@@ -100,24 +196,25 @@ packed = pack state
 
 -- records of 4s, and two bytes behind them
 abbrev longer : List ℕ
-longer = replicate 7080 4 ++ (8 ∷ 9 ∷ [])
+longer = replicate end 4 ++ (8 ∷ 9 ∷ [])
 
--- what stands at those places, and how many bytes there are
-abbrev bytesAt : List ℕ → List ℕ → List ℕ
-bytesAt places s = map (λ place. getD s place 0) places
+-- what stands at the places of fields
+abbrev bytesAt : List (ℕ × ℕ) → List ℕ → List ℕ
+bytesAt fields s = map (λ field. getD s (field .0) 0) fields
+
+abbrev inputBytes : List ℕ → List ℕ
+inputBytes = bytesAt (placed inputPlace inputWidths)
 
 abbrev written : List Example
 written =
-    gives (bytesAt (0 ∷ 1 ∷ 41 ∷ 46 ∷ 51 ∷ 53 ∷ 54 ∷ 58 ∷ 59 ∷ 123 ∷ 124 ∷ 125 ∷ 126 ∷ 127 ∷ 128 ∷ []) packed) (from 1 15)
-    ∷ gives (bytesAt (192 ∷ 492 ∷ 496 ∷ 497 ∷ 561 ∷ 562 ∷ 563 ∷ 564 ∷ 565 ∷ 566 ∷ 567 ∷ 568 ∷ 569 ∷ 570 ∷ 571 ∷ 581 ∷ 582 ∷ 583 ∷ []) packed) (from 16 18)
-    ∷ gives (bytesAt (2585 ∷ 2806 ∷ 2946 ∷ 2948 ∷ 2949 ∷ 2953 ∷ 2954 ∷ 6042 ∷ 6043 ∷ 6044 ∷ 6045 ∷ 6049 ∷ 6050 ∷ 6052 ∷ 6056 ∷ []) packed) (from 34 15)
-    ∷ gives (length packed ∷ []) (7080 ∷ [])
+    gives (bytesAt fields packed) (values state)
+    ∷ gives (length packed ∷ []) (end ∷ [])
     -- bytes past the records stay, after any call
-    ∷ gives (drop 7080 (outcomes.written (record { core = state .core; input = idle }) longer) ++ drop 7080 (coreWritten (state .core) longer)) (8 ∷ 9 ∷ 8 ∷ 9 ∷ [])
+    ∷ gives (drop end (outcomes.written (record { core = state .core; input = idle }) longer) ++ drop end (coreWritten (state .core) longer)) (8 ∷ 9 ∷ 8 ∷ 9 ∷ [])
     -- the input half collected is written, and by a take kept
-    ∷ gives (bytesAt (6049 ∷ 6050 ∷ 6052 ∷ 6056 ∷ []) (outcomes.written (record { core = state .core; input = inData (7 ∷ []) (5 ∷ 5 ∷ []) }) longer) ++ bytesAt (0 ∷ 6049 ∷ 6050 ∷ 6052 ∷ 6056 ∷ []) (coreWritten (state .core) longer)) (3 ∷ 1 ∷ 2 ∷ 7 ∷ 1 ∷ 4 ∷ 4 ∷ 4 ∷ 4 ∷ [])
+    ∷ gives (inputBytes (outcomes.written (record { core = state .core; input = inData (7 ∷ []) (5 ∷ 5 ∷ []) }) longer) ++ (getD (coreWritten (state .core) longer) 0 0 ∷ inputBytes (coreWritten (state .core) longer))) (3 ∷ 1 ∷ 2 ∷ 7 ∷ 1 ∷ 4 ∷ 4 ∷ 4 ∷ 4 ∷ [])
     ∷ []
 
 pub written-hold : AllHold written
 unfolding theBook
-written-hold = (refl, (refl, (refl, (refl, (refl, (refl, tt))))))
+written-hold = (refl, (refl, (refl, (refl, tt))))

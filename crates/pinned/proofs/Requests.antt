@@ -5,7 +5,9 @@ use mathlib.Core.List.{List, [], _∷_, _++_, map}
 use Prim.Native.Nat.{ℕ, zero, suc, _+_}
 use Prim.Native.String.{String}
 use lib.ListN.{length, take, drop, replicate}
-use Rattle.strike.specs.Service.{Reading, unreadable, alone, withData, DataSet, noData, whole, tooLong}
+use Rattle.strike.specs.declared.Reading.{Reading}
+use Rattle.strike.specs.declared.Reading.the-variants.{NotReadable, Alone, WithData}
+use Rattle.strike.specs.Service.{DataSet, noData, whole, tooLong}
 use Rattle.rules.specs.declared.Core.{Core}
 use Rattle.rules.specs.Text.{chars}
 use Rattle.rules.specs.Lists.{from, without}
@@ -61,9 +63,9 @@ offered-hold = (refl, (refl, (refl, (refl, (refl, tt)))))
 -- Readable commands: unreadable 0, without data set 1, with one 2.
 
 abbrev readingNumber : Reading → ℕ
-readingNumber unreadable = 0
-readingNumber alone = 1
-readingNumber withData = 2
+readingNumber NotReadable = 0
+readingNumber Alone = 1
+readingNumber WithData = 2
 
 abbrev read : List (List ℕ) → ℕ
 read es = readingNumber (reading (command es))

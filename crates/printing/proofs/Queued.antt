@@ -32,10 +32,6 @@ module _ (q : Queue) (tidy : Tidy q) where
   unfolding queued
   tidy-count = sym (ap (λ (x : Queue). x .count) tidy)
 
-  tidy-entries : q .entries ≡ filledTo mostEntries noEntry (entriesOf q)
-  unfolding queued
-  tidy-entries = sym (ap (λ (x : Queue). x .entries) tidy)
-
 abbrev pub longer : Queue → Entry → Queue
 longer q e = record { count = q .count + 1; entries = set (q .entries) (q .count) e }
 

@@ -1,7 +1,7 @@
 -- The first few elements of a list, from one place on; a test of any of them.
 -- Assumes nothing.
-use Prim.Native.Nat.{ℕ, zero, suc, _+_, _<_, _≤_, min}
-use mathlib.Core.Path.{_≡_, refl, sym, ap, _∙_}
+use Prim.Native.Nat.{ℕ, _+_, _<_, _≤_}
+use mathlib.Core.Path.{_≡_, sym, ap, _∙_}
 use mathlib.Core.Bool.{Bool, true, false}
 use mathlib.Core.List.{List, [], _∷_}
 use native.Mathlib.Numerals.{add-one}
@@ -36,22 +36,10 @@ module _ {A : Type 0} (test : A → Bool) (xs : List A) (n i : ℕ) where
   unfolding any
   any-none h = ap (any test) (rest-none xs n i h)
 
--- an element is read whatever stands for those that are not there
-getD-there : {A : Type 0} (xs : List A) (i : ℕ) (d e : A) → i < length xs → getD xs i d ≡ getD xs i e
-getD-there [] i d e h = absurd (omega arith)
-getD-there (x ∷ xs) zero d e h = refl
-getD-there (x ∷ xs) (suc i) d e h = getD-there xs i d e (omega arith)
-
--- How many the first few are, and the one at a place.
+-- How many the first few are.
 module _ {A : Type 0} (xs : List A) (n : ℕ) where
   pub few-all : (m : ℕ) → length xs ≡ m → m < n → (take m xs ≡ take n xs) × (length (take n xs) ≡ m)
   few-all m e h = (take-all m xs (omega arith) ∙ sym (take-all n xs (omega arith)), rw (length-take) (omega arith))
 
   pub few-some : n ≤ length xs → length (take n xs) ≡ n
   few-some h = rw (length-take) (omega arith)
-
-  pub few-below : (i : ℕ) → i < length (take n xs) → (i < n) × (i < length xs)
-  few-below i h = let l : i < min n (length xs) = rw (length-take) at h in (omega arith, omega arith)
-
-  pub few-at : (i : ℕ) (d e : A) → i < length (take n xs) → getD xs i d ≡ getD (take n xs) i e
-  few-at i d e h = let b = few-below i h in getD-there xs i d e (b .1) ∙ sym (getD-take n xs i e (b .0))

@@ -11,12 +11,12 @@ ghost use mathlib.Core.Path.{_≡_};
 ghost use Prim.Native.Nat.{_+_, _-_, _<_, _≤_};
 ghost use mathlib.Core.List.{[], _∷_, _++_, map};
 ghost use lib.Dec.{eqb, ltb};
-ghost use lib.ListN.{length, getD, take, drop};
+ghost use lib.ListN.{length, take, drop};
 ghost use Rattle.choice.specs.Pick.{both, not};
 ghost use Rattle.choice.specs.Rules.{_⇒_, firstBroken};
 ghost use Rattle.rules.specs.Bounds.{mostBoxes, mostEntries};
 ghost use Rattle.rules.specs.Lists.{any, apart, from};
-ghost use Rattle.rules.specs.Records.{boxesOf, filled, noFilm, filmsOf, entriesOf, queued};
+ghost use Rattle.rules.specs.Records.{boxesOf, filled, filmsOf, entriesOf, queued};
 ghost use Rattle.rules.specs.Effects.{filmAt, pictureOn, entryOf, nextTicket, ticketed, printed, filledBoxes, noneFilled};
 ghost use Rattle.rules.specs.Checks.{samePosition, collides, sessionPrintRules, filmPrintRules};
 
@@ -34,7 +34,7 @@ fn places(f: Film) -> usize
     ensures { λ r. ⌜ (r ≤ 36) × (take r (f .boxes) ≡ boxesOf f) ⌝ }
 {
     let layout = f.layout;
-    let count = distinct::box_count(layout) as usize;
+    let count = layouts::box_count(layout) as usize;
     let boxes = f.boxes;
     boxes_within(boxes, count)
 }
@@ -274,31 +274,13 @@ pub fn session_print_broken(k: Core) -> u16
     print_broken(colliding, full, 0xC601)
 }
 
-// Of the first n films the one at a place.
-fn film_within(a: [Film; 8], n: usize, i: usize) -> Film
-    requires { ⌜ i < length (take n a) ⌝ }
-    ensures { λ r. ⌜ r ≡ getD (take n a) i noFilm ⌝ }
-{
-    let xs = a;
-    xs[i]
-}
-
-// The film at a place.
-pub fn film_at(s: Shelf, i: usize) -> Film
-    requires { ⌜ i < length (filmsOf s) ⌝ }
-    ensures { λ r. ⌜ r ≡ getD (filmsOf s) i noFilm ⌝ }
-{
-    let films = s.films;
-    film_within(films, s.count as usize, i)
-}
-
 // Check 10, for the film at a place.
 pub fn film_print_broken(k: Core, i: usize) -> u16
     requires { ⌜ i < length (filmsOf (k .shelf)) ⌝ }
     ensures { λ r. ⌜ r ≡ firstBroken (filmPrintRules k i) ⌝ }
 {
     let shelf = k.shelf;
-    let film = film_at(shelf, i);
+    let film = shelves::film_at(shelf, i);
     let colliding = film_collides(film);
     let queue = k.queue;
     let full = lacks_room(queue, 1);
@@ -383,7 +365,7 @@ pub fn printed_film(k: Core, i: usize) -> Core
     ensures { λ r. ⌜ r ≡ printed k (filmAt k i ∷ []) ⌝ }
 {
     let shelf = k.shelf;
-    let film = film_at(shelf, i);
+    let film = shelves::film_at(shelf, i);
     printed_one(k, film)
 }
 

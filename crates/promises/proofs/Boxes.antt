@@ -21,7 +21,9 @@ use Rattle.rules.specs.declared.Core.{Core}
 use Rattle.rules.specs.Lists.{every}
 use Rattle.rules.specs.Values.{noBytes, blank, isUS, usIn, polarities, codeIn}
 use Rattle.rules.specs.Records.{rootOf, boxCount, boxesOf, filmsOf, noBox, noFilm, shelved, pictureUsed}
-use Rattle.rules.specs.Attributes.{Listing, look, valueOf, orKept, attributeRules, codeAllowed, us, Image, keeps, erases, tooMany, fills, imageIn, isFill, boxStandings, pictureAfter, boxWith}
+use Rattle.rules.specs.declared.Image.{Image}
+use Rattle.rules.specs.declared.Image.the-variants.{Keeps, Erases, TooMany, Fills}
+use Rattle.rules.specs.Attributes.{Listing, look, valueOf, orKept, attributeRules, codeAllowed, us, imageIn, isFill, boxStandings, pictureAfter, boxWith}
 use Rattle.rules.specs.Effects.{noPictureLeft, filmAt, withBoxes, boxSetIn, numbersAfter, boxSet}
 use Rattle.rules.specs.Checks.{boxRules}
 use Rattle.rules.specs.Sound.{between, flag, numbersSound, boxSound, filmSound, shelfSound, uidsApart, coreSound}
@@ -46,12 +48,12 @@ polarity-given boxes l old t h = or-kept (λ p. leb p 1 ≡ true) (codeAllowed p
 -- Picture numbers.
 
 picture-below : (image : Image) (n : Numbers) (old : ℕ) → numbersSound n ≡ true → ltb old (n .picture) ≡ true → ltb (pictureAfter (n .picture) image old) (numbersAfter image n .picture) ≡ true
-picture-below keeps n old e f = f
-picture-below erases n old e f =
+picture-below Keeps n old e f = f
+picture-below Erases n old e f =
     let h = counted n e .pictures in
     lt-ltb 0 (n .picture) (omega arith)
-picture-below tooMany n old e f = f
-picture-below (fills item) n old e f = lt-ltb (n .picture) (n .picture + 1) (omega arith)
+picture-below TooMany n old e f = f
+picture-below (Fills inside) n old e f = lt-ltb (n .picture) (n .picture + 1) (omega arith)
 
 picture-used : (n : Numbers) → numbersSound n ≡ true → noPictureLeft n ≡ false → numbersSound (pictureUsed n) ≡ true
 unfolding rootOf
@@ -68,17 +70,17 @@ picture-used n e f =
     }
 
 numbers-after : (image : Image) (n : Numbers) → numbersSound n ≡ true → both (isFill image) (noPictureLeft n) ≡ false → numbersSound (numbersAfter image n) ≡ true
-numbers-after keeps n e f = e
-numbers-after erases n e f = e
-numbers-after tooMany n e f = e
-numbers-after (fills item) n e f = picture-used n e f
+numbers-after Keeps n e f = e
+numbers-after Erases n e f = e
+numbers-after TooMany n e f = e
+numbers-after (Fills inside) n e f = picture-used n e f
 
 later-after : (image : Image) (n : Numbers) → Later n (numbersAfter image n)
 unfolding rootOf
-later-after keeps n = record { root = refl; serials = omega arith; pictures = omega arith }
-later-after erases n = record { root = refl; serials = omega arith; pictures = omega arith }
-later-after tooMany n = record { root = refl; serials = omega arith; pictures = omega arith }
-later-after (fills item) n = record { root = refl; serials = omega arith; pictures = omega arith }
+later-after Keeps n = record { root = refl; serials = omega arith; pictures = omega arith }
+later-after Erases n = record { root = refl; serials = omega arith; pictures = omega arith }
+later-after TooMany n = record { root = refl; serials = omega arith; pictures = omega arith }
+later-after (Fills inside) n = record { root = refl; serials = omega arith; pictures = omega arith }
 
 -- The box.
 

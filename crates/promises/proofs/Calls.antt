@@ -21,7 +21,7 @@ use Rattle.rules.specs.Lists.{every, apart, filledTo}
 use Rattle.rules.specs.Records.{rootOf, filmsOf, entriesOf, shelved, noSession, notOpen}
 use Rattle.rules.specs.Effects.{sessionDeleted}
 use Rattle.rules.specs.Sound.{between, numbersSound, serialsOf, uidsApart, sessionBlank, entrySound, filmSound, openedSound, coreSound}
-use Rattle.rules.specs.Calls.{Handed, badRoot, badNumber, badContext, badSyntax, messageWrong, startRules, openRules, withOpened, started, opened, closed, taken}
+use Rattle.rules.specs.Calls.{Starting, Opening, badRoot, badNumber, badContext, badSyntax, messageWrong, startRules, openRules, withOpened, started, opened, closed, taken}
 use Rattle.promises.proofs.ListLaws.{all-holds, take-filled, behind-filled, every-nil, every-drop, films-shelved}
 use Rattle.promises.proofs.Facts.{between-holds, core-facts, core-sound, numbers-sound, queue-facts, entries-few, shelved-sound, queued-sound}
 
@@ -73,11 +73,11 @@ fewer-entries : (es : List Entry) → length es ≤ mostEntries → length (drop
 fewer-entries es h = simp length-drop (omega arith)
 
 -- where the queue is empty, it stays so
-pub taken-sound : (k : Core) (h : Handed) → coreSound k ≡ true → coreSound (taken k h .0) ≡ true
+pub taken-sound : (k : Core) → coreSound k ≡ true → coreSound (taken k .0) ≡ true
 unfolding taken
-taken-sound k h e =
+taken-sound k e =
     let f = core-facts k e in
-    core-sound (taken k h .0) record {
+    core-sound (taken k .0) record {
       numbers = f .numbers;
       live = f .live;
       session = f .session;
@@ -121,7 +121,7 @@ start-numbers root serial picture e f g =
       picture = good-number picture g;
     }
 
-pub started-sound : (h : Handed) → Kept (startRules h) → coreSound (started h) ≡ true
+pub started-sound : (h : Starting) → Kept (startRules h) → coreSound (started h) ≡ true
 unfolding started
 started-sound h r =
     let t = either-false (badNumber (h .serial)) (badNumber (h .picture)) (r .1 .0) in
@@ -156,7 +156,7 @@ good-room k room e =
     let u = either-false (ltb room leastRoom) (ltb mostRoom room) (t .0) in
     between-holds leastRoom mostRoom room (ltb-false room leastRoom (u .0)) (ltb-false mostRoom room (u .1))
 
-pub opened-sound : (k : Core) (h : Handed) → coreSound k ≡ true → Kept (openRules k h) → coreSound (opened k h) ≡ true
+pub opened-sound : (k : Core) (h : Opening) → coreSound k ≡ true → Kept (openRules k h) → coreSound (opened k h) ≡ true
 unfolding opened openedSound
 opened-sound k h e r =
     let t = either-false (badContext (h .context)) (badSyntax (h .syntax)) (r .1 .0) in

@@ -11,10 +11,10 @@ use lib.Dec.{eqb, leb, ltb}
 use lib.ListN.{length, take, drop, length-take}
 use Rattle.choice.specs.Pick.{pick, both, either, not}
 use Rattle.choice.proofs.Picks.{Kept, pick-cases, not-false, not-true, both-true, both-holds, both-second, either-false}
-use Rattle.strike.specs.Service.{DataSet, noData, whole, tooLong, Result, fails, does, Call, start, opening, feed, close, aside, passes}
+use Rattle.strike.specs.Service.{DataSet, whole, Result, fails, does, Call, start, opening, feed, close, aside, passes}
 use Rattle.strike.specs.Machine as machine
 use Rattle.strike.specs.Machine.{Fragment, command, dataset, fragmentIn, idle, inCommand, skippingCommand, inData, skippingData}
-use Rattle.strike.specs.Machine.{Outcome, ignores, waits, drops, asks, skips, reads, gathers, overflows, stores, collect, Records, answered, carriedOut, fed, checked, step}
+use Rattle.strike.specs.Machine.{commandLimit, Outcome, ignores, waits, drops, asks, skips, reads, gathers, overflows, stores, collect, Records, answered, carriedOut, fed, checked, step}
 use Rattle.strike.specs.Messages.{after}
 use Rattle.strike.proofs.Lies.{Lies}
 use Rattle.rules.specs.declared.Opened.{Opened}
@@ -22,15 +22,15 @@ use Rattle.rules.specs.declared.Core.{Core}
 use Rattle.rules.specs.declared.Input.{Input}
 use Rattle.rules.specs.declared.Command.{Command}
 use Rattle.rules.specs.declared.Command.the-variants.{Unreadable, Unknown, Known}
-use Rattle.rules.specs.Bounds.{commandLimit, leastRoom, mostRoom}
+use Rattle.rules.specs.Bounds.{leastRoom, mostRoom}
 use Rattle.rules.specs.Lists.{filledTo}
-use Rattle.rules.specs.Records.{isOpen}
+use Rattle.rules.specs.Records.{isOpen, commandHeld}
 use Rattle.rules.specs.Commands.{hasData, understood}
 use Rattle.rules.specs.Responses.{Reply}
 use Rattle.rules.specs.Checks.{decide}
 use Rattle.rules.specs.Sound.{zeros, readable, inputSound}
-use Rattle.rules.specs.Calls.{Handed, feedRules, rulesOf, taken, readingOf, reading, printing}
-use Rattle.rules.specs.Outcomes.{commandHeld, inputIn, inputHeld}
+use Rattle.rules.specs.Calls.{Lengths, taking, handed, feedRules, rulesOf, taken, readingOf, reading, printing}
+use Rattle.rules.specs.Outcomes.{inputIn, inputHeld}
 use Rattle.promises.proofs.ListLaws.{all-true, all-holds, zeros-replicate, take-filled, behind-filled}
 use Rattle.promises.proofs.Steps.{step-cases, run-cases}
 
@@ -51,9 +51,7 @@ Fits o (inData c d) = Open o × (Collected c × (length d ≤ o .room))
 Fits o (skippingData c) = Open o × Collected c
 
 abbrev pub DataFits : Opened → DataSet → Type 0
-DataFits o noData = Unit {0}
-DataFits o (whole d) = length d ≤ o .room
-DataFits o tooLong = Unit {0}
+DataFits o d = length (d .bytes) ≤ o .room
 
 abbrev pub OutcomeFits : Opened → Outcome → Type 0
 OutcomeFits o ignores = Unit {0}
@@ -68,9 +66,9 @@ module _ (o : Opened) (live : Open o) where
   unfolding reads
   reads-fit c withSet Unreadable h e = tt
   reads-fit c true (Unknown message field) h e = (live, (record { short = h; read = ap readable e }, omega arith))
-  reads-fit c false (Unknown message field) h e = (record { short = h; read = ap readable e }, tt)
+  reads-fit c false (Unknown message field) h e = (record { short = h; read = ap readable e }, omega arith)
   reads-fit c true (Known r) h e = (live, (record { short = h; read = ap readable e }, omega arith))
-  reads-fit c false (Known r) h e = (record { short = h; read = ap readable e }, tt)
+  reads-fit c false (Known r) h e = (record { short = h; read = ap readable e }, omega arith)
 
   skips-fit : (last : Bool) → OutcomeFits o (skips last)
   unfolding skips
@@ -89,7 +87,7 @@ module _ (o : Opened) (live : Open o) where
 
   overflows-fit : (c : List ℕ) (last : Bool) → Collected c → OutcomeFits o (overflows c last)
   unfolding overflows
-  overflows-fit c true h = (h, tt)
+  overflows-fit c true h = (h, omega arith)
   overflows-fit c false h = (live, h)
 
   stores-fit-if : (c d : List ℕ) (b last : Bool) → leb (length d) (o .room) ≡ b → Collected c → OutcomeFits o (pick b (pick last (asks c (whole d)) (waits (inData c d))) (overflows c last))
@@ -137,21 +135,21 @@ unfolding fed
 fed-fits s none live h = tt
 fed-fits s (some f) live h = outcome-fits (s .core) (collect reading (s .core .opened .room) (s .input) f) (collect-fits (s .core .opened) live (s .input) f h)
 
-feed-open : (k : Core) (h : Handed) → Kept (feedRules k h) → Open (k .opened)
+feed-open : (k : Core) (h : Lengths) → Kept (feedRules k h) → Open (k .opened)
 feed-open k h rows = not-true (eqb (k .opened .live) 0) (not-false (isOpen k) (rows .1 .1 .1 .1 .0))
 
-passed-fits : (s : Records Core) (call : Call Handed) → RecordsFit s → Kept (rulesOf (s .core) call) → RecordsFit (checked printing passes s call .records)
+passed-fits : (s : Records Core) (call : Call handed) → RecordsFit s → Kept (rulesOf (s .core) call) → RecordsFit (checked printing passes s call .records)
 unfolding checked taken
 passed-fits s (start a) h rows = tt
 passed-fits s (opening a) h rows = tt
 passed-fits s (feed bytes a) h rows = fed-fits s (fragmentIn (s .core .opened .context) bytes) (feed-open (s .core) a rows) h
-passed-fits s (close a) h rows = tt
-passed-fits s (aside a) h rows = h
+passed-fits s close h rows = tt
+passed-fits s (aside (taking entry)) h rows = h
 
-pub step-fits : (s : Records Core) (call : Call Handed) → RecordsFit s → RecordsFit (step printing s call .records)
+pub step-fits : (s : Records Core) (call : Call handed) → RecordsFit s → RecordsFit (step printing s call .records)
 step-fits s call h = step-cases RecordsFit s call h (passed-fits s call h)
 
-pub run-fits : (s : Records Core) (cs : List (Call Handed)) → RecordsFit s → RecordsFit (after printing s cs)
+pub run-fits : (s : Records Core) (cs : List (Call handed)) → RecordsFit s → RecordsFit (after printing s cs)
 run-fits = run-cases RecordsFit step-fits
 
 -- The rule of the records says the same of what they hold.
@@ -253,7 +251,7 @@ view-lies i message =
     (λ g. pick-cases So (eqb (i .phase) 4) (skippingData (commandHeld i)) idle (λ j. tt) (λ j. tt))))
 
 -- a feed that is not refused has a message buffer of the length that the open fixed
-pub room-told : (k : Core) (h : Handed) → Kept (feedRules k h) → k .opened .room ≡ h .message
+pub room-told : (k : Core) (h : Lengths) → Kept (feedRules k h) → k .opened .room ≡ h .message
 room-told k h rules =
     let limits = either (ltb (h .message) leastRoom) (ltb mostRoom (h .message)) in
     let other = not (eqb (h .message) (k .opened .room)) in

@@ -12,7 +12,8 @@ use Rattle.uids.specs.Uids.{made}
 use Rattle.headers.specs.declared.Part.{Part}
 use Rattle.rules.specs.declared.Film.{Film}
 use Rattle.rules.specs.declared.Core.{Core}
-use Rattle.rules.specs.Records.{rootOf, uidOf, boxCount, filmsOf, noFilm, theSession, theFilm, theBox, boxUids, named}
+use Rattle.rules.specs.declared.Instance.the-variants.{TheSession, TheFilm, TheBox}
+use Rattle.rules.specs.Records.{rootOf, uidOf, boxCount, filmsOf, noFilm, boxUids, named}
 use Rattle.rules.specs.Attributes.{Listing, sessionWith, filmWith}
 use Rattle.rules.specs.Effects.{newFilm, sessionCreated, filmCreated, filmAt}
 use Rattle.rules.specs.Checks.{createRules, newSessionRules, newFilmRules, sentUid, newUid}
@@ -37,27 +38,27 @@ module _ (k : Core) (sent : List ℕ) (l : Listing) where
 
 module _ (k : Core) (c : List ℕ) (sent : Part) (l : Listing) (sound : coreSound k ≡ true) (allowed : Kept (createRules k c sent)) where
   -- The instance that a created session's response tells names the session.
-  pub created-session-named : Kept (newSessionRules k (sentUid c sent) l) → named (sessionCreated k (sentUid c sent) l) (newUid k (sentUid c sent)) ≡ theSession
+  pub created-session-named : Kept (newSessionRules k (sentUid c sent) l) → named (sessionCreated k (sentUid c sent) l) (newUid k (sentUid c sent)) ≡ TheSession
   unfolding sessionCreated sessionWith uidOf rootOf
   created-session-named h = session-lives (sessionCreated k (sentUid c sent) l) (session-created-sound k c sent l sound allowed h) refl .names
 
   module _ (h : Kept (newFilmRules k (sentUid c sent) l)) where
     -- The instance that a created film's response tells names the film.
-    pub created-film-named : named (filmCreated k (sentUid c sent) l) (newUid k (sentUid c sent)) ≡ theFilm (length (filmsOf (k .shelf)))
+    pub created-film-named : named (filmCreated k (sentUid c sent) l) (newUid k (sentUid c sent)) ≡ TheFilm (length (filmsOf (k .shelf)))
     unfolding filmCreated newFilm filmWith uidOf rootOf
     created-film-named =
         let after = filmCreated k (sentUid c sent) l in
         let i = length (filmsOf (k .shelf)) in
-        subst (λ (f : Film). named after (uidOf (after .numbers) (f .name)) ≡ theFilm i) (film-after k (sentUid c sent) l)
+        subst (λ (f : Film). named after (uidOf (after .numbers) (f .name)) ≡ TheFilm i) (film-after k (sentUid c sent) l)
         (film-lives after (film-create-sound k c sent l sound allowed h) i (place-after k (sentUid c sent) l) .names)
 
     -- The j-th UID of a created film's data set names its j-th box.
-    pub created-box-named : (j : ℕ) → j < boxCount (newFilm k (sentUid c sent) l .layout) → named (filmCreated k (sentUid c sent) l) (getD (boxUids (k .numbers) (newFilm k (sentUid c sent) l)) j []) ≡ theBox (length (filmsOf (k .shelf))) j
+    pub created-box-named : (j : ℕ) → j < boxCount (newFilm k (sentUid c sent) l .layout) → named (filmCreated k (sentUid c sent) l) (getD (boxUids (k .numbers) (newFilm k (sentUid c sent) l)) j []) ≡ TheBox (length (filmsOf (k .shelf))) j
     unfolding filmCreated rootOf
     created-box-named j g =
         let after = filmCreated k (sentUid c sent) l in
         let new = newFilm k (sentUid c sent) l in
         let i = length (filmsOf (k .shelf)) in
         ap (named after) (box-uid-at (k .numbers) new j g)
-        ∙ subst (λ (f : Film). j < boxCount (f .layout) → named after (made (rootOf (after .numbers)) (f .first .0 + j)) ≡ theBox i j) (film-after k (sentUid c sent) l)
+        ∙ subst (λ (f : Film). j < boxCount (f .layout) → named after (made (rootOf (after .numbers)) (f .first .0 + j)) ≡ TheBox i j) (film-after k (sentUid c sent) l)
         (λ b. box-lives after (film-create-sound k c sent l sound allowed h) i j (place-after k (sentUid c sent) l) b .names) g

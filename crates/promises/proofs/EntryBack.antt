@@ -16,7 +16,7 @@ use Rattle.octets.proofs.Numbers.{octets-length, number-back}
 use Rattle.uids.specs.Uids.{isUid}
 use Rattle.uids.proofs.Length.{uid-short}
 use Rattle.uids.proofs.Padding.{uid-solid}
-use Rattle.rules.specs.Bounds.{mostBoxes, entryRoom, noneLeft}
+use Rattle.rules.specs.Bounds.{mostBoxes, ticketPlace, copiesPlace, uidPlace, entryRoom, noneLeft}
 use Rattle.rules.specs.declared.Picture.{Picture}
 use Rattle.rules.specs.declared.Entry.{Entry}
 use Rattle.rules.specs.declared.Numbers.{Numbers}
@@ -41,10 +41,10 @@ upToZero (c ∷ s) = pick (eqb c 0) [] (c ∷ upToZero s)
 -- What the bytes of an entry mean, read by place: 36 picture numbers of 4 bytes, ticket and copies of 2, and the film's UID, then zeros.
 pub record EntryMeans (s : List ℕ) (n : Numbers) (e : Entry) : Type 0 where
   pub pictures : (i : ℕ) → i < mostBoxes → numberAt 4 s (4 * i) ≡ getD (e .pictures) i (picture 0) .0
-  pub ticket : numberAt 2 s 144 ≡ e .ticket
-  pub copies : numberAt 2 s 146 ≡ e .copies
-  pub uid : upToZero (part s 148 entryRoom) ≡ uidOf n (e .film)
-  pub behind : (i : ℕ) → 148 + length (uidOf n (e .film)) ≤ i → i < entryRoom → getD s i 0 ≡ 0
+  pub ticket : numberAt 2 s ticketPlace ≡ e .ticket
+  pub copies : numberAt 2 s copiesPlace ≡ e .copies
+  pub uid : upToZero (part s uidPlace entryRoom) ≡ uidOf n (e .film)
+  pub behind : (i : ℕ) → uidPlace + length (uidOf n (e .film)) ≤ i → i < entryRoom → getD s i 0 ≡ 0
 
 -- The pictures.
 
@@ -121,20 +121,20 @@ module _ (n : Numbers) (e : Entry) (fits : EntryFits n e) where
       let c = octets 2 (e .copies) in
       let t = octets 2 (e .ticket) in
       let p = pictureBytes (e .pictures) in
-      let place : 0 + length p ≡ 144 = omega (arith, pictures-length (e .pictures), fits .pictures) in
-      let after-pictures : Stands s 144 (t ++ (c ++ name)) = subst (λ (at : ℕ). Stands s at (t ++ (c ++ name))) place (stands-second s 0 p (t ++ (c ++ name)) h) in
-      let after-ticket : Stands s 146 (c ++ name) = stands-second s 144 t (c ++ name) after-pictures in
+      let place : 0 + length p ≡ ticketPlace = omega (arith, pictures-length (e .pictures), fits .pictures) in
+      let after-pictures : Stands s ticketPlace (t ++ (c ++ name)) = subst (λ (at : ℕ). Stands s at (t ++ (c ++ name))) place (stands-second s 0 p (t ++ (c ++ name)) h) in
+      let after-ticket : Stands s copiesPlace (c ++ name) = stands-second s ticketPlace t (c ++ name) after-pictures in
       let size = filled-length 64 0 u (uid-short u (fits .uid)) in
-      let named : part s 148 entryRoom ≡ name = subst (λ (z : ℕ). part s 148 (148 + z) ≡ name) size (stands-second s 146 c name after-ticket) in
+      let named : part s uidPlace entryRoom ≡ name = subst (λ (z : ℕ). part s uidPlace (uidPlace + z) ≡ name) size (stands-second s copiesPlace c name after-ticket) in
       record {
         pictures = λ i k. number-back 4 _ s (4 * i) (fits .each i k) (picture-at i k (stands-first s 0 p (t ++ (c ++ name)) h));
-        ticket = number-back 2 (e .ticket) s 144 (fits .ticket) (stands-first s 144 t (c ++ name) after-pictures);
-        copies = number-back 2 (e .copies) s 146 (fits .copies) (stands-first s 146 c name after-ticket);
+        ticket = number-back 2 (e .ticket) s ticketPlace (fits .ticket) (stands-first s ticketPlace t (c ++ name) after-pictures);
+        copies = number-back 2 (e .copies) s copiesPlace (fits .copies) (stands-first s copiesPlace c name after-ticket);
         uid = ap upToZero named ∙ up-to-zeros u (64 - length u) (uid-solid u (fits .uid));
         behind = λ i k l.
-            let z : 148 + (i - 148) ≡ i = omega arith in
-            ap (λ (x : ℕ). getD s x 0) (sym z) ∙ sym (getD-drop 148 s (i - 148) 0) ∙ sym (getD-take 64 (drop 148 s) (i - 148) 0 (omega arith))
-            ∙ ap (λ (x : List ℕ). getD x (i - 148) 0) named ∙ zero-behind u (64 - length u) (i - 148) (omega arith);
+            let z : uidPlace + (i - uidPlace) ≡ i = omega arith in
+            ap (λ (x : ℕ). getD s x 0) (sym z) ∙ sym (getD-drop uidPlace s (i - uidPlace) 0) ∙ sym (getD-take 64 (drop uidPlace s) (i - uidPlace) 0 (omega arith))
+            ∙ ap (λ (x : List ℕ). getD x (i - uidPlace) 0) named ∙ zero-behind u (64 - length u) (i - uidPlace) (omega arith);
       }
     where
       picture-at : (i : ℕ) → i < mostBoxes → Stands s 0 (pictureBytes (e .pictures)) → Stands s (4 * i) (octets 4 (getD (e .pictures) i (picture 0) .0))
@@ -168,7 +168,7 @@ module _ (k : Core) (keeps : coreSound k ≡ true) (sized : Sized k) (i : ℕ) (
         uid = name-uid (k .numbers) (entryAt k i .film) (facts .numbers) (all-true _ kept .1 .1 .0);
       }
 
-  -- An entry has 212 bytes.
+  -- An entry that is taken has so many bytes.
   pub entry-length : length (entryBytes (k .numbers) (entryAt k i)) ≡ entryRoom
   entry-length = fitting-length (k .numbers) (entryAt k i) entry-fits
 
@@ -178,7 +178,7 @@ module _ (k : Core) (keeps : coreSound k ≡ true) (sized : Sized k) (i : ℕ) (
       let bytes = entryBytes (k .numbers) (entryAt k i) in
       entry-reads (k .numbers) (entryAt k i) entry-fits bytes (from-start bytes (length bytes) refl)
 
-  -- So it is from a lent buffer of at least 212 bytes that it is laid over.
+  -- So it is from a lent buffer of at least so many bytes that it is laid over.
   pub entry-means-laid : (b : List ℕ) → entryRoom ≤ length b → EntryMeans (laid b 0 (entryBytes (k .numbers) (entryAt k i))) (k .numbers) (entryAt k i)
   entry-means-laid b long =
       let bytes = entryBytes (k .numbers) (entryAt k i) in
@@ -186,9 +186,9 @@ module _ (k : Core) (keeps : coreSound k ≡ true) (sized : Sized k) (i : ℕ) (
 
 -- Tickets.
 
--- Two entries in the queue have different numbers in bytes 144 and 145.
+-- Two entries in the queue have different numbers where their tickets stand.
 pub ticket-bytes-differ : (k : Core) → coreSound k ≡ true → Sized k → Ticketed k → (i j : ℕ) → i < length (entriesOf (k .queue)) → j < length (entriesOf (k .queue)) → (i ≡ j → ⊥)
-    → numberAt 2 (entryBytes (k .numbers) (entryAt k i)) 144 ≡ numberAt 2 (entryBytes (k .numbers) (entryAt k j)) 144 → ⊥
+    → numberAt 2 (entryBytes (k .numbers) (entryAt k i)) ticketPlace ≡ numberAt 2 (entryBytes (k .numbers) (entryAt k j)) ticketPlace → ⊥
 ticket-bytes-differ k keeps sized c i j h l apart same =
     let e = sym (entry-means k keeps sized i h .ticket) ∙ same ∙ entry-means k keeps sized j l .ticket in
     by (ltb i j) refl e

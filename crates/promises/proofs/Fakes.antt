@@ -6,17 +6,15 @@ use mathlib.Core.Bool.{true, false}
 use mathlib.Core.List.{List, [], _∷_, map}
 use Prim.Native.Nat.{ℕ}
 use Rattle.strike.specs.Service.{Call, feed}
-use Rattle.strike.specs.Machine.{stores}
 use Rattle.strike.specs.Machine as machine
 use Rattle.strike.specs.Machine.{idle, Answer}
 use Rattle.strike.specs.Messages.{answers}
 use Rattle.strike.proofs.Fakes.{dropsAll, failsAll, oneReply, storesNone, storesFirst}
 use Rattle.rules.proofs.Book.{theBook}
 use Rattle.rules.specs.Responses.{Reply}
-use Rattle.rules.specs.Calls.{Handed, printing}
+use Rattle.rules.specs.Calls.{Lengths, handed, printing}
 use Rattle.rules.proofs.Stage.{nothingLive}
 use Rattle.elements.specs.Reader.{dataSet}
-use Rattle.rules.specs.Responses.{reply}
 
 -- C-ECHO, number 7, in one fragment
 abbrev echo7 : List ℕ
@@ -48,10 +46,10 @@ deletes =
     ∷ 0x01 ∷ 0x10 ∷ 0x06 ∷ 0x00 ∷ 0x00 ∷ 0x00 ∷ 0x31 ∷ 0x2E ∷ 0x32 ∷ 0x2E ∷ 0x33 ∷ 0x00 ∷ []
 
 -- the buffers lent to a feed: just long enough
-abbrev lent : Handed
-lent = record { root = []; serial = 0; picture = 0; context = 0; syntax = 0; message = 4096; command = 256; dataSet = 8192; report = 20; entry = 0 }
+abbrev lent : Lengths
+lent = record { message = 4096; command = 256; dataSet = 8192; report = 20 }
 
-abbrev feeds : List (List ℕ) → List (Call Handed)
+abbrev feeds : List (List ℕ) → List (Call handed)
 feeds fragments = map (λ bytes. feed bytes lent) fragments
 
 -- what an answer shows: whether a response, and its status

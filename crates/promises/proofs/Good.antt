@@ -16,8 +16,8 @@ use Rattle.uids.specs.Uids.{digits, component, components, isUid}
 use Rattle.fields.specs.Format.{Format, byte, array, write}
 use Rattle.fields.proofs.Laws.{read-write}
 use Rattle.strike.specs.Machine as machine
-use Rattle.strike.specs.Machine.{idle, inCommand, skippingCommand, inData, skippingData, Records}
-use Rattle.rules.specs.Bounds.{commandLimit, leastRoom, mostRoom, mostFilms, mostBoxes, mostEntries, rootLimit, noneLeft}
+use Rattle.strike.specs.Machine.{commandLimit, idle, inCommand, skippingCommand, inData, skippingData, Records}
+use Rattle.rules.specs.Bounds.{leastRoom, mostRoom, mostFilms, mostBoxes, mostEntries, rootLimit, noneLeft}
 use Rattle.rules.specs.declared.Picture.{Picture}
 use Rattle.rules.specs.declared.Name.{Name}
 use Rattle.rules.specs.declared.Session.{Session}
@@ -32,13 +32,13 @@ use Rattle.rules.specs.declared.Opened.{Opened}
 use Rattle.rules.specs.declared.Core.{Core}
 use Rattle.rules.specs.declared.Input.{Input}
 use Rattle.rules.specs.Lists.{every, filledTo}
-use Rattle.rules.specs.Values.{trimmed, labelByte, labelAllowed}
+use Rattle.rules.specs.Values.{trimmed, labelByte, labelAllowed, kindCol}
 use Rattle.rules.specs.Records.{rootOf, boxCount, boxesOf, filmsOf, entriesOf, isLive}
 use Rattle.rules.specs.Sound.{between, zeros, flag, nameSound, sentSound, madeSound, nameBlank, numbersSound, sessionSound, sessionBlank, layoutSound, boxSound, boxBlank, filmSound, filmBlank, shelfSound, entrySound, entryBlank, queueSound, openSound, openedSound, coreSound}
 use Rattle.rules.specs.Layout.{serialFormat, pictureFormat, nameFormat, sessionFormat, boxFormat, layoutFormat, filmFormat, shelfFormat, entryFormat, queueFormat, numbersFormat, openedFormat, coreFormat, inputFormat, stateFormat, recordsSize, unpack, pack}
 use Rattle.rules.specs.Outcomes.{held, inputHeld, written}
 use Rattle.rules.proofs.Sizes.{records-size}
-use Rattle.promises.proofs.Packed.{state-laws, unpack-pack, core-unpacked}
+use Rattle.promises.proofs.Packed.{state-laws}
 use Rattle.promises.proofs.ListLaws.{all-true, Each, each-at, each-append, each-take, each-drop, each-join, each-filled, each-told, each-so, filled-length}
 use Rattle.promises.proofs.Facts.{between-true, core-facts, numbers-facts, shelf-facts, queue-facts, LabelFacts, session-facts, box-facts, film-facts}
 use Rattle.promises.proofs.Layouts.{boxes-most, sum-between}
@@ -187,7 +187,7 @@ good-session n s h live e z = session-cases n s (isLive s) h (leb-true (s .live)
 
 -- as many lines as there may be, and as many boxes in each
 pub record LayoutFacts (l : Layout) : Type 0 where
-  pub turned : l .turned ≤ 1
+  pub kind : l .kind ≤ kindCol
   pub lines : (1 ≤ l .lines) × (l .lines ≤ 6)
   pub counts : every (between 1 6) (take (l .lines) (l .counts)) ≡ true
   pub behind : zeros (drop (l .lines) (l .counts)) ≡ true
@@ -196,7 +196,7 @@ pub layout-facts : (l : Layout) → layoutSound l ≡ true → LayoutFacts l
 unfolding layoutSound
 layout-facts l e =
     let t = all-true _ e in
-    record { turned = leb-true (l .turned) 1 (t .0); lines = between-true 1 6 (l .lines) (t .1 .0); counts = t .1 .1 .0; behind = t .1 .1 .1 .0 }
+    record { kind = leb-true (l .kind) kindCol (t .0); lines = between-true 1 6 (l .lines) (t .1 .0); counts = t .1 .1 .0; behind = t .1 .1 .1 .0 }
 
 -- a film has a box, and no more than there are places
 pub box-count : (l : Layout) → layoutSound l ≡ true → length (l .counts) ≡ 6 → (1 ≤ boxCount l) × (boxCount l ≤ mostBoxes)
@@ -211,7 +211,7 @@ pub good-layout : (l : Layout) → layoutSound l ≡ true → length (l .counts)
 unfolding layoutFormat
 good-layout l e z =
     let t = layout-facts l e in (
-      omega (arith, t .turned),
+      omega (arith, t .kind),
       (
         omega (arith, t .lines .1),
         good-array byte 6 (l .counts) z
@@ -279,7 +279,7 @@ good-film n f h k e z =
 pub good-no-film : (f : Film) → filmBlank f ≡ true → FilmSized f → filmFormat .Good f
 unfolding filmFormat serialFormat layoutFormat
 good-no-film f e z =
-    let values : List ℕ = f .layout .turned ∷ f .layout .lines ∷ f .orientation ∷ f .magnification ∷ f .first .0 ∷ [] in
+    let values : List ℕ = f .layout .kind ∷ f .layout .lines ∷ f .orientation ∷ f .magnification ∷ f .first .0 ∷ [] in
     let t = all-true _ e in
     let v = zero-bytes values (t .1 .0) in (
       good-no-name (f .name) (t .0) (z .name),
@@ -391,10 +391,6 @@ good-core k e z =
       ),
     )
 
--- whatever input stands behind it
-pub core-back : (k : Core) (i : Input) → coreSound k ≡ true → Sized k → unpack (pack (record { core = k; input = i })) .core ≡ k
-core-back k i e z = core-unpacked (record { core = k; input = i }) (good-core k e z)
-
 -- The input.
 
 pub bytes-each : (s : List ℕ) → Bytes s → Each Byte s
@@ -430,9 +426,6 @@ good-input (skippingData c) f = held-fits 4 c 0 (omega arith) f (omega arith)
 pub good-state : (r : Records Core) → coreSound (r .core) ≡ true → Sized (r .core) → InputFits (r .input) → stateFormat .Good (stateOf r)
 unfolding stateFormat
 good-state r e z f = (good-core (r .core) e z, good-input (r .input) f)
-
-pub state-back : (r : Records Core) → coreSound (r .core) ≡ true → Sized (r .core) → InputFits (r .input) → unpack (pack (stateOf r)) ≡ stateOf r
-state-back r e z f = unpack-pack (stateOf r) (good-state r e z f)
 
 -- what a call wrote, the next call unpacks
 pub written-back : (r : Records Core) (b : List ℕ) → recordsSize ≤ length b → coreSound (r .core) ≡ true → Sized (r .core) → InputFits (r .input) → unpack (written r b) ≡ stateOf r

@@ -14,17 +14,19 @@ use Rattle.rules.specs.declared.Film.{Film}
 use Rattle.rules.specs.declared.Numbers.{Numbers}
 use Rattle.rules.specs.declared.Core.{Core}
 use Rattle.rules.specs.Lists.{any, placeOf, from}
-use Rattle.rules.specs.Records.{rootOf, uidOf, isLive, boxCount, filmsOf, noFilm, Instance, nobody, theSession, theFilm, theBox, boxUids, filmNamed, boxNamed, boxOf, named}
+use Rattle.rules.specs.declared.Instance.{Instance}
+use Rattle.rules.specs.declared.Instance.the-variants.{Nobody, TheSession, TheFilm, TheBox}
+use Rattle.rules.specs.Records.{rootOf, uidOf, isLive, boxCount, filmsOf, noFilm, boxUids, filmNamed, boxNamed, boxOf, named}
 use Rattle.rules.specs.Effects.{filmAt}
 use Rattle.rules.specs.Checks.{isNobody}
 use Rattle.promises.proofs.ListLaws.{place-below, place-passes, from-length}
 
 -- an instance is there: the session is live, the film and the box have their places
 abbrev pub There : Core → Instance → Type 0
-There k nobody = Unit {0}
-There k theSession = isLive (k .session) ≡ true
-There k (theFilm i) = i < length (filmsOf (k .shelf))
-There k (theBox i j) = (i < length (filmsOf (k .shelf))) × (j < boxCount (filmAt k i .layout))
+There k Nobody = Unit {0}
+There k TheSession = isLive (k .session) ≡ true
+There k (TheFilm i) = i < length (filmsOf (k .shelf))
+There k (TheBox i j) = (i < length (filmsOf (k .shelf))) × (j < boxCount (filmAt k i .layout))
 
 -- a film has as many UIDs of boxes as it has boxes
 pub box-uids-length : (n : Numbers) (f : Film) → length (boxUids n f) ≡ boxCount (f .layout)
@@ -55,28 +57,28 @@ module _ (k : Core) (uid : List ℕ) where
       let films = filmsOf (k .shelf) in
       let n = k .numbers in
       let i = placeOf (boxNamed n uid) films in
-      pick-cases (There k) (both (isLive (k .session)) (same uid (uidOf n (k .session .name)))) theSession _
+      pick-cases (There k) (both (isLive (k .session)) (same uid (uidOf n (k .session .name)))) TheSession _
       (λ e. both-true (isLive (k .session)) (same uid (uidOf n (k .session .name))) e .0)
       (λ a.
-      pick-cases (There k) (any (filmNamed n uid) films) (theFilm (placeOf (filmNamed n uid) films)) _
+      pick-cases (There k) (any (filmNamed n uid) films) (TheFilm (placeOf (filmNamed n uid) films)) _
       (λ e. place-below (filmNamed n uid) films e)
       (λ b.
-      pick-cases (There k) (any (boxNamed n uid) films) (boxOf n uid films i) nobody
+      pick-cases (There k) (any (boxNamed n uid) films) (boxOf n uid films i) Nobody
       (λ e. (place-below (boxNamed n uid) films e, box-there n uid (getD films i noFilm) (place-passes (boxNamed n uid) films noFilm e)))
       (λ c. tt)))
 
-  pub named-session : named k uid ≡ theSession → isLive (k .session) ≡ true
+  pub named-session : named k uid ≡ TheSession → isLive (k .session) ≡ true
   named-session e = subst (There k) e named-there
 
-  pub named-film : (i : ℕ) → named k uid ≡ theFilm i → i < length (filmsOf (k .shelf))
+  pub named-film : (i : ℕ) → named k uid ≡ TheFilm i → i < length (filmsOf (k .shelf))
   named-film i e = subst (There k) e named-there
 
-  pub named-box : (i j : ℕ) → named k uid ≡ theBox i j → (i < length (filmsOf (k .shelf))) × (j < boxCount (filmAt k i .layout))
+  pub named-box : (i j : ℕ) → named k uid ≡ TheBox i j → (i < length (filmsOf (k .shelf))) × (j < boxCount (filmAt k i .layout))
   named-box i j e = subst (There k) e named-there
 
 -- A UID that names nobody.
 
-nobody-picked : (s f b : Bool) (p x y : ℕ) → isNobody (pick s theSession (pick f (theFilm p) (pick b (theBox x y) nobody))) ≡ true → (s ≡ false) × (f ≡ false) × (b ≡ false)
+nobody-picked : (s f b : Bool) (p x y : ℕ) → isNobody (pick s TheSession (pick f (TheFilm p) (pick b (TheBox x y) Nobody))) ≡ true → (s ≡ false) × (f ≡ false) × (b ≡ false)
 nobody-picked true f b p x y e = absurd (clash refl e)
 nobody-picked false true b p x y e = absurd (clash refl e)
 nobody-picked false false true p x y e = absurd (clash refl e)

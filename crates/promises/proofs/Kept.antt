@@ -5,15 +5,13 @@ use mathlib.Core.Path.{_≡_}
 use mathlib.Core.Bool.{true}
 use mathlib.Core.List.{List}
 use Rattle.choice.proofs.Picks.{Kept, first-kept, both-true, both-holds}
-use Rattle.strike.specs.Service.{DataSet, does, Call, start, passes, refuses}
+use Rattle.strike.specs.Service.{Call, start, passes, refuses}
 use Rattle.strike.specs.Machine.{idle, Records, checked, step}
 use Rattle.strike.specs.Messages.{after}
 use Rattle.rules.specs.declared.Core.{Core}
 use Rattle.rules.specs.declared.State.{State}
-use Rattle.rules.specs.Responses.{Reply}
-use Rattle.rules.specs.Checks.{decide}
 use Rattle.rules.specs.Sound.{coreSound, inputSound, sound}
-use Rattle.rules.specs.Calls.{Handed, startRules, check, started, printing}
+use Rattle.rules.specs.Calls.{Starting, handed, startRules, check, started, printing}
 use Rattle.rules.specs.Outcomes.{inputHeld, recordsIn}
 use Rattle.promises.proofs.Instances.{named-session, named-film, named-box}
 use Rattle.promises.proofs.Calls.{started-sound, opened-sound, closed-sound, taken-sound, session-deleted-sound}
@@ -23,7 +21,7 @@ use Rattle.promises.proofs.Boxes.{box-set-sound}
 use Rattle.promises.proofs.Films.{film-deleted-sound, film-set-sound}
 use Rattle.promises.proofs.NewFilm.{film-create-sound}
 use Rattle.promises.proofs.Printing.{session-printed-sound, film-printed-sound}
-use Rattle.promises.proofs.Decided.{After, decided-does}
+use Rattle.promises.proofs.Decided.{After}
 use Rattle.promises.proofs.Steps.{AfterCalls, step-kept, run-kept}
 use Rattle.promises.proofs.Collecting.{RecordsFit, step-fits, run-fits, fits-sound, sound-fits, in-fits}
 
@@ -46,24 +44,20 @@ after-sound k e = record {
   noFilm = λ uid i n. film-deleted-sound k i e;
 }
 
--- a request that is done keeps the rules
-pub request-keeps : (k : Core) (c : List ℕ) (d : DataSet) (k' : Core) (r : Reply) → coreSound k ≡ true → decide k c d ≡ does k' r → coreSound k' ≡ true
-request-keeps k c d k' r e = decided-does Sound k (after-sound k e) c d k' r
-
 each-sound : (k : Core) → Sound k → AfterCalls Sound k
 each-sound k e = record {
   open-kept = λ h r. opened-sound k h e r;
   close-kept = closed-sound k e;
-  take-kept = λ h r. taken-sound k h e;
+  take-kept = taken-sound k e;
   request-kept = after-sound k e;
 }
 
 -- every call keeps the rules, refused or not
-pub step-keeps : (s : Records Core) (call : Call Handed) → coreSound (s .core) ≡ true → coreSound (step printing s call .records .core) ≡ true
+pub step-keeps : (s : Records Core) (call : Call handed) → coreSound (s .core) ≡ true → coreSound (step printing s call .records .core) ≡ true
 step-keeps s call e = step-kept Sound s (each-sound (s .core) e) call (λ h i r. started-sound h r)
 
 -- and so does every run
-pub run-keeps : (s : Records Core) (calls : List (Call Handed)) → coreSound (s .core) ≡ true → coreSound (after printing s calls .core) ≡ true
+pub run-keeps : (s : Records Core) (calls : List (Call handed)) → coreSound (s .core) ≡ true → coreSound (after printing s calls .core) ≡ true
 run-keeps = run-kept Sound started-sound each-sound
 
 -- The records as they are kept between calls.
@@ -86,25 +80,25 @@ module _ (s : Records Core) where
   parts-sound e h = both-holds _ _ e (fits-sound (s .core .opened) (s .input) h)
 
 -- one call, refused or not
-pub call-keeps-rules : (s : Records Core) (call : Call Handed) → sound (stateOf s) ≡ true → sound (stateOf (step printing s call .records)) ≡ true
+pub call-keeps-rules : (s : Records Core) (call : Call handed) → sound (stateOf s) ≡ true → sound (stateOf (step printing s call .records)) ≡ true
 call-keeps-rules s call e =
     let r = records-parts s e in
     parts-sound (step printing s call .records) (step-keeps s call (r .0)) (step-fits s call (r .1))
 
 -- any run of calls
-pub run-keeps-rules : (s : Records Core) (calls : List (Call Handed)) → sound (stateOf s) ≡ true → sound (stateOf (after printing s calls)) ≡ true
+pub run-keeps-rules : (s : Records Core) (calls : List (Call handed)) → sound (stateOf s) ≡ true → sound (stateOf (after printing s calls)) ≡ true
 run-keeps-rules s calls e =
     let r = records-parts s e in
     parts-sound (after printing s calls) (run-keeps s calls (r .0)) (run-fits s calls (r .1))
 
 -- a start that is done makes records that keep them, so that no run from a start meets a broken rule
-pub start-keeps-rules : (s : Records Core) (h : Handed) → Kept (startRules h) → sound (stateOf (step printing s (start h) .records)) ≡ true
+pub start-keeps-rules : (s : Records Core) (h : Starting) → Kept (startRules h) → sound (stateOf (step printing s (start h) .records)) ≡ true
 unfolding step check checked
 start-keeps-rules s h rows =
     rw (first-kept refuses (startRules h) passes rows) (parts-sound (record { core = started h; input = idle }) (started-sound h rows) tt)
 
 -- one call of the records that it unpacks, with the message buffer, and those that it packs
-pub call-sound : (s : State) (message : List ℕ) (call : Call Handed) → sound s ≡ true → sound (stateOf (step printing (recordsIn s message) call .records)) ≡ true
+pub call-sound : (s : State) (message : List ℕ) (call : Call handed) → sound s ≡ true → sound (stateOf (step printing (recordsIn s message) call .records)) ≡ true
 call-sound s message call e =
     let r = sound-parts s e in
     let before : Records Core = recordsIn s message in

@@ -2,7 +2,7 @@
 -- Assumes nothing.
 use Prim.Native.Nat.{ℕ, zero, suc, _+_, _*_, _-_, _≤_}
 use mathlib.Core.Path.{_≡_, refl}
-use mathlib.Core.Bool.{Bool, true, false, false≢true}
+use mathlib.Core.Bool.{Bool, true, false}
 use mathlib.Core.List.{List, [], _∷_, map}
 use native.Mathlib.Omega.{arith}
 use lib.Dec.{eqb, leb}
@@ -17,11 +17,12 @@ use Rattle.rules.specs.declared.Numbers.{Numbers}
 use Rattle.rules.specs.Bounds.{mostBoxes}
 use Rattle.rules.specs.Text.{chars}
 use Rattle.rules.specs.Lists.{every, from, sum}
-use Rattle.rules.specs.Values.{withoutTrailing, oneToSix, standard, listed, numbersIn, uneven, byColumns, countsIn}
+use Rattle.rules.specs.Values.{withoutTrailing, oneToSix, standard, listed, numbersIn, uneven, kindStandard, kindRow, kindCol, kindIn, countsIn}
 use Rattle.rules.specs.Records.{boxCount}
 use Rattle.rules.specs.Attributes.{Listing, valueOf, layoutFrom, layoutIn}
 use Rattle.rules.specs.Effects.{newBox}
-use Rattle.rules.specs.Sound.{between, flag, layoutSound, boxSound}
+use Rattle.rules.specs.Sound.{between, layoutSound, boxSound}
+use Rattle.rules.proofs.Formats.{listed-length}
 use Rattle.promises.proofs.ListLaws.{all-true, all-holds, every-parts, every-replicate}
 use Rattle.promises.proofs.Facts.{between-true, between-holds, box-sound}
 
@@ -53,17 +54,14 @@ standard-lines t e =
       each = every-replicate (between 1 6) (getD t 11 0 - 48) (getD t 9 0 - 48) (digit-sound (getD t 9 0) (c .0));
     }
 
--- numbers with a comma between two are one more than the commas, each of 1 to 6
-pub listed-numbers : (t : List ℕ) → listed t ≡ true → (suc (length t) ≡ 2 * length (numbersIn t)) × (every (between 1 6) (numbersIn t) ≡ true)
+listed-each : (t : List ℕ) → listed t ≡ true → every (between 1 6) (numbersIn t) ≡ true
 unfolding listed numbersIn every
-listed-numbers [] e = absurd (false≢true e)
-listed-numbers (d ∷ []) e = (refl, both-holds (between 1 6 (d - 48)) true (digit-sound d e) refl)
-listed-numbers (d ∷ (c ∷ ds)) e =
+listed-each [] e = refl
+listed-each (d ∷ []) e = both-holds (between 1 6 (d - 48)) true (digit-sound d e) refl
+listed-each (d ∷ (c ∷ ds)) e =
     let a = both-true (oneToSix d) _ e in
     let b = both-true (eqb c 0x2C) (listed ds) (a .1) in
-    let more = listed-numbers ds (b .1) in
-    let n = more .0 in
-    (omega arith, both-holds (between 1 6 (d - 48)) (every (between 1 6) (numbersIn ds)) (digit-sound d (a .0)) (more .1))
+    both-holds (between 1 6 (d - 48)) (every (between 1 6) (numbersIn ds)) (digit-sound d (a .0)) (listed-each ds (b .1))
 
 uneven-lines : (t : List ℕ) → uneven t ≡ true → Lines (numbersIn (drop 4 t))
 unfolding uneven
@@ -71,10 +69,9 @@ uneven-lines t e =
     let a = both-true (either (same (take 4 t) (chars "ROW\\")) (same (take 4 t) (chars "COL\\"))) _ e in
     let b = both-true (leb (length t) 15) (listed (drop 4 t)) (a .1) in
     let most = leb-true (length t) 15 (b .0) in
-    let numbers = listed-numbers (drop 4 t) (b .1) in
-    let n = numbers .0 in
+    let n = listed-length (drop 4 t) (b .1) in
     let m = length-drop 4 t in
-    record { some = omega arith; few = omega arith; each = numbers .1 }
+    record { some = omega arith; few = omega arith; each = listed-each (drop 4 t) (b .1) }
 
 lines-picked : (b c : Bool) (xs ys : List ℕ) → (b ≡ true → Lines xs) → (c ≡ true → Lines ys) → (length (pick b xs (pick c ys [])) ≡ 0 → ⊥) → Lines (pick b xs (pick c ys []))
 lines-picked true c xs ys f g h = f refl
@@ -88,16 +85,22 @@ counts-lines v h =
     let t = withoutTrailing v in
     lines-picked (standard t) (uneven t) _ _ (standard-lines t) (uneven-lines t) h
 
-flag-of : (b : Bool) → flag (pick b 1 0) ≡ true
-flag-of true = refl
-flag-of false = refl
+one-of-three : (row column : Bool) → leb (pick row kindRow (pick column kindCol kindStandard)) kindCol ≡ true
+one-of-three true column = refl
+one-of-three false true = refl
+one-of-three false false = refl
 
-pub layout-sound : (turned : Bool) (counts : List ℕ) → Lines counts → layoutSound (layoutFrom turned counts) ≡ true
+-- whatever a text says, it is of one of three kinds
+pub kind-sound : (v : List ℕ) → leb (kindIn v) kindCol ≡ true
+unfolding kindIn
+kind-sound v = one-of-three (same (take 4 v) (chars "ROW\\")) (same (take 4 v) (chars "COL\\"))
+
+pub layout-sound : (kind : ℕ) (counts : List ℕ) → leb kind kindCol ≡ true → Lines counts → layoutSound (layoutFrom kind counts) ≡ true
 unfolding layoutSound
-layout-sound turned counts g =
+layout-sound kind counts few g =
     let z : List ℕ = replicate (6 - length counts) 0 in
     all-holds _ (
-      flag-of turned,
+      few,
       (
         between-holds 1 6 (length counts) (g .some) (g .few),
         (
@@ -137,19 +140,19 @@ boxes-most l e =
     let n = length-take (l .lines) (l .counts) in
     omega arith
 
-no-boxes : (turned : Bool) (counts : List ℕ) → length counts ≡ 0 → boxCount (layoutFrom turned counts) ≡ 0
+no-boxes : (kind : ℕ) (counts : List ℕ) → length counts ≡ 0 → boxCount (layoutFrom kind counts) ≡ 0
 unfolding boxCount sum
-no-boxes turned [] e = refl
-no-boxes turned (c ∷ counts) e = absurd (omega arith)
+no-boxes kind [] e = refl
+no-boxes kind (c ∷ counts) e = absurd (omega arith)
 
-few-boxes : (turned : Bool) (counts : List ℕ) (none : Bool) → eqb (length counts) 0 ≡ none → ((length counts ≡ 0 → ⊥) → Lines counts) → boxCount (layoutFrom turned counts) ≤ mostBoxes
-few-boxes turned counts true e g = let z = no-boxes turned counts (eqb-true (length counts) 0 e) in omega arith
-few-boxes turned counts false e g = boxes-most (layoutFrom turned counts) (layout-sound turned counts (g (eqb-false (length counts) 0 e)))
+few-boxes : (kind : ℕ) (counts : List ℕ) (none : Bool) → leb kind kindCol ≡ true → eqb (length counts) 0 ≡ none → ((length counts ≡ 0 → ⊥) → Lines counts) → boxCount (layoutFrom kind counts) ≤ mostBoxes
+few-boxes kind counts true few e g = let z = no-boxes kind counts (eqb-true (length counts) 0 e) in omega arith
+few-boxes kind counts false few e g = boxes-most (layoutFrom kind counts) (layout-sound kind counts few (g (eqb-false (length counts) 0 e)))
 
 -- so of the layout in a data set, also where it is not allowed
 pub layout-few : (l : Listing) → boxCount (layoutIn l) ≤ mostBoxes
 unfolding layoutIn
-layout-few l = let v = valueOf l 0x2010_0010 in few-boxes (byColumns v) (countsIn v) (eqb (length (countsIn v)) 0) refl (counts-lines v)
+layout-few l = let v = valueOf l 0x2010_0010 in few-boxes (kindIn v) (countsIn v) (eqb (length (countsIn v)) 0) (kind-sound v) refl (counts-lines v)
 
 -- The boxes.
 

@@ -2,18 +2,17 @@
 -- Assumes nothing.
 use Prim.Native.Nat.{ℕ, _<_, _≤_}
 use mathlib.Core.Path.{_≡_, refl, sym, subst}
-use mathlib.Core.Bool.{true}
-use mathlib.Core.List.{List, []}
+use mathlib.Core.List.{List}
 use mathlib.Core.Option.{Option, none, some}
 use native.Mathlib.Omega.{arith}
 use lib.Dec.{eqb, leb, ltb}
 use lib.ListN.{length}
-use borrow.Author.Tests.{ltb-false, le-leb, eqb-false}
+use borrow.Author.Tests.{ltb-false, eqb-false}
 use Rattle.choice.specs.Pick.{both, not}
-use Rattle.choice.proofs.Picks.{pick-cases, both-second, not-true, not-false, Kept}
+use Rattle.choice.proofs.Picks.{pick-cases, not-true, not-false, Kept}
 use Rattle.octets.specs.Octets.{laid, Bytes}
-use Rattle.strike.specs.Service.{DataSet, noData, whole, tooLong, Result, fails, does, feed, aside, Check, passes, refuses}
-use Rattle.strike.specs.Machine.{Fragment, fragmentIn, Outcome, ignores, waits, drops, asks, Records, collect, laidBy, answered, carriedOut, fed, checked, step, laidIf, messageAfter}
+use Rattle.strike.specs.Service.{DataSet, Result, fails, does, feed, Check, passes, refuses}
+use Rattle.strike.specs.Machine.{Fragment, fragmentIn, Outcome, ignores, waits, drops, asks, Records, collect, laidBy, answered, carriedOut, fed, checked, step, laidIf}
 use Rattle.strike.proofs.Lies.{DataLies, OutcomeLies, collect-lies}
 use Rattle.rules.specs.Bounds.{mostRoom, reportRoom, entryRoom}
 use Rattle.rules.specs.declared.Opened.{Opened}
@@ -22,9 +21,10 @@ use Rattle.rules.specs.Records.{entriesOf, isOpen}
 use Rattle.rules.specs.Responses.{Reply}
 use Rattle.rules.specs.Sound.{sound}
 use Rattle.rules.specs.Layout.{recordsSize, unpack}
-use Rattle.rules.specs.Checks.{dataOf, decide}
-use Rattle.rules.specs.Calls.{Handed, feedRules, check, taken, reading, printing}
+use Rattle.rules.specs.Checks.{decide}
+use Rattle.rules.specs.Calls.{feedRules, check, taken, reading, printing}
 use Rattle.rules.specs.Outcomes.{recordsIn, reportBytes, recordsRules, Taking, nothingTaken, took, takes, Feeding, Lent, nothingFed, fedOnly, refusedWith, fedTo, lengths, feeds}
+use Rattle.rules.proofs.Accepted.{rules-kept}
 use Rattle.promises.proofs.Facts.{core-facts}
 use Rattle.promises.proofs.Collecting.{DataFits, OutcomeFits, collect-fits, in-fits, view-lies, room-told}
 use Rattle.promises.proofs.Kept.{sound-parts}
@@ -34,12 +34,7 @@ use Rattle.promises.proofs.Decided.{replyOf}
 use Rattle.promises.proofs.Notes.{NoteWithin, below-cases, note-within}
 use Rattle.promises.proofs.EntryBack.{EntryMeans, entryAt, entry-means-laid}
 use Rattle.promises.proofs.ReportBack.{ReportMeans, report-means-laid}
-
--- records that are not refused keep their rules
-rules-kept : (b : List ℕ) → Kept (recordsRules b) → sound (unpack b) ≡ true
-rules-kept b kept =
-    let long = le-leb recordsSize (length b) (ltb-false (length b) recordsSize (kept .1 .0)) in
-    not-false (sound (unpack b)) (both-second (leb recordsSize (length b)) (not (sound (unpack b))) (kept .0) long)
+use Rattle.strike.proofs.Opened.{theMachine}
 
 -- A take.
 
@@ -47,18 +42,17 @@ abbrev OldestMeant : Core → Taking → Type 0
 OldestMeant k t = t .number ≡ 0 → EntryMeans (t .entry) (k .numbers) (entryAt k 0)
 
 -- What a take that answers 0 leaves in the lent buffer is read as the oldest entry of the records that it was called with.
-pub take-means : (b lent : List ℕ) (h : Handed) → Bytes b → h .entry ≡ length lent → takes b lent h .number ≡ 0 → EntryMeans (takes b lent h .entry) (unpack b .core .numbers) (entryAt (unpack b .core) 0)
-unfolding takes step check checked taken
-take-means b lent h o room =
+pub take-means : (b lent : List ℕ) → Bytes b → takes b lent .number ≡ 0 → EntryMeans (takes b lent .entry) (unpack b .core .numbers) (entryAt (unpack b .core) 0)
+unfolding takes taken
+take-means b lent o =
     let k = unpack b .core in
-    let outcome : Check → Taking = λ x. took b lent (checked printing x (recordsIn (unpack b) []) (aside h)) in
     pick-cases (OldestMeant k) (both (leb recordsSize (length b)) (not (sound (unpack b)))) (nothingTaken b lent 1) _ (λ _ z. absurd (omega arith))
     (λ e. pick-cases (OldestMeant k) (ltb (length b) recordsSize) (nothingTaken b lent 2) _ (λ _ z. absurd (omega arith))
-    (λ f. pick-cases (λ x. OldestMeant k (outcome x)) (ltb (h .entry) entryRoom) (refuses 2) _ (λ _ z. absurd (omega arith))
-    (λ g. pick-cases (λ x. OldestMeant k (outcome x)) (eqb (length (entriesOf (k .queue))) 0) (refuses 6) passes (λ _ z. absurd (omega arith))
+    (λ f. pick-cases (OldestMeant k) (ltb (length lent) entryRoom) (nothingTaken b lent 2) _ (λ _ z. absurd (omega arith))
+    (λ g. pick-cases (OldestMeant k) (eqb (length (entriesOf (k .queue))) 0) (nothingTaken b lent 6) (took b lent (taken k)) (λ _ z. absurd (omega arith))
     (λ some z.
     let one = eqb-false (length (entriesOf (k .queue))) 0 some in
-    entry-means-laid k (sound-parts (unpack b) (rules-kept b (e, (f, tt))) .0) (unpacked-sized b o) 0 (omega arith) lent (omega (arith, ltb-false (h .entry) entryRoom g))))))
+    entry-means-laid k (sound-parts (unpack b) (rules-kept b (e, (f, tt))) .0) (unpacked-sized b o) 0 (omega arith) lent (omega (arith, ltb-false (length lent) entryRoom g))))))
 
 -- A feed.
 
@@ -75,7 +69,7 @@ pub record Responded (l : Lent) (f : Feeding) : Type 0 where
   pub sent : DataSet
   pub meant : ReplyMeant l f (replyOf (decide (unpack (l .records) .core) request sent))
   pub lies : DataLies sent (f .message)
-  pub note : NoteWithin (length (dataOf sent)) (replyOf (decide (unpack (l .records) .core) request sent) .note)
+  pub note : NoteWithin (length (sent .bytes)) (replyOf (decide (unpack (l .records) .core) request sent) .note)
 
 abbrev IfResponse : Lent → Feeding → Type 0
 IfResponse l f = f .number ≡ 19 → Responded l f
@@ -90,10 +84,8 @@ unfolding answered
 answered-message l message k d (fails r) = refl
 answered-message l message k d (does after r) = refl
 
-pub data-room : (o : Opened) (d : DataSet) → o .room ≤ mostRoom → DataFits o d → length (dataOf d) ≤ mostRoom
-data-room o noData h f = omega arith
-data-room o (whole d) h f = omega arith
-data-room o tooLong h f = omega arith
+pub data-room : (o : Opened) (d : DataSet) → o .room ≤ mostRoom → DataFits o d → length (d .bytes) ≤ mostRoom
+data-room o d h f = omega arith
 
 refused-meant : (l : Lent) (r : Records Core) (message : List ℕ) (n : ℕ) → n < 19 → IfResponse l (refusedWith l r message n)
 refused-meant l r message n h = pick-cases (IfResponse l) (eqb n 5) (fedOnly l r message 5) (nothingFed l n) (λ _ z. absurd (omega arith)) (λ _ z. absurd (omega arith))
@@ -132,7 +124,7 @@ module _ (l : Lent) (kept : Kept (recordsRules (l .records))) (rules : Kept (fee
 
 -- Where a feed answers with a response, 19, the reply that the book decides stands in the lent buffers, and the report is read as it was meant.
 pub feed-means : (l : Lent) (fragment : List ℕ) → feeds l fragment .number ≡ 19 → Responded l (feeds l fragment)
-unfolding feeds step check checked messageAfter laidIf
+unfolding theMachine feeds check
 feed-means l fragment =
     let s = recordsIn (unpack (l .records)) (l .message) in
     let f = fragmentIn (s .core .opened .context) fragment in

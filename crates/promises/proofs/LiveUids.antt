@@ -12,7 +12,7 @@ use Rattle.choice.specs.Pick.{pick, not}
 use Rattle.choice.proofs.Picks.{pick-cases, both-true, both-holds, not-true, clash}
 use Rattle.octets.specs.Octets.{same}
 use Rattle.octets.proofs.Same.{same-self}
-use Rattle.uids.specs.Uids.{beginsWith, lastDigits, decimal, made}
+use Rattle.uids.specs.Uids.{beginsWith, made}
 use Rattle.uids.proofs.Length.{uid-some}
 use Rattle.uids.proofs.Made.{made-apart, never-made}
 use Rattle.strike.specs.Service.{Call}
@@ -24,10 +24,10 @@ use Rattle.rules.specs.declared.Film.{Film}
 use Rattle.rules.specs.declared.Numbers.{Numbers}
 use Rattle.rules.specs.declared.Core.{Core}
 use Rattle.rules.specs.Bounds.{noneLeft}
-use Rattle.rules.specs.Lists.{every, apart, sum, from}
-use Rattle.rules.specs.Records.{rootOf, uidOf, boxCount, filmsOf, shelved, isLive, boxUids}
+use Rattle.rules.specs.Lists.{every, apart, from}
+use Rattle.rules.specs.Records.{rootOf, uidOf, boxCount, filmsOf, isLive, boxUids}
 use Rattle.rules.specs.Sound.{nameSound, sentSound, madeSound, filmSound, Serials, overlap, ownSerial, serialsOf, sentText, sameText, uidsApart, coreSound}
-use Rattle.rules.specs.Calls.{Handed, printing}
+use Rattle.rules.specs.Calls.{handed, printing}
 use Rattle.rules.specs.Text.{chars}
 use Rattle.rules.proofs.Stage.{filmLive}
 use Rattle.promises.proofs.ListLaws.{all-true, every-parts, Each, each-all, each-append, every-map, apart-parts, Unlike, Differ, joined, differ-append, differ-all, differ-one}
@@ -35,6 +35,7 @@ use Rattle.promises.proofs.Facts.{between-true, core-facts, numbers-fac
 use Rattle.promises.proofs.Instances.{box-uids-length, box-uid-at}
 use Rattle.promises.proofs.NewNames.{text-none}
 use Rattle.promises.proofs.Kept.{run-keeps}
+use Rattle.rules.proofs.Book.{theBook}
 
 -- the session's UID, where it is live
 abbrev pub sessionUids : Numbers → Session → List (List ℕ)
@@ -177,10 +178,10 @@ pub live-uids-differ : (k : Core) → coreSound k ≡ true → LiveUidsDiffer k
 live-uids-differ k e i j h l q = let z = differ-one (liveUids k) [] i j (uids-differ k e) (omega arith) l q in omega arith
 
 -- Nor are they after any run of calls.
-pub live-uids-differ-always : (s : Records Core) (calls : List (Call Handed)) → coreSound (s .core) ≡ true → LiveUidsDiffer (after printing s calls .core)
+pub live-uids-differ-always : (s : Records Core) (calls : List (Call handed)) → coreSound (s .core) ≡ true → LiveUidsDiffer (after printing s calls .core)
 live-uids-differ-always s calls e = live-uids-differ (after printing s calls .core) (run-keeps s calls e)
 
 -- At work: a session, its film, and the film's six boxes.
 pub live-uids-at-work : liveUids filmLive ≡ map chars ("1.2.3" ∷ "1.9.7.100" ∷ "1.9.7.101" ∷ "1.9.7.102" ∷ "1.9.7.103" ∷ "1.9.7.104" ∷ "1.9.7.105" ∷ "1.9.7.106" ∷ [])
-unfolding chars rootOf uidOf boxCount filmsOf shelved boxUids sum from lastDigits decimal made
+unfolding theBook
 live-uids-at-work = refl

@@ -20,7 +20,7 @@ use Rattle.rules.specs.declared.Numbers.{Numbers}
 use Rattle.rules.specs.declared.Core.{Core}
 use Rattle.rules.specs.Bounds.{mostBoxes}
 use Rattle.rules.specs.Lists.{every, any, apart, from, filledTo}
-use Rattle.rules.specs.Values.{blank, byColumns, countsIn}
+use Rattle.rules.specs.Values.{blank, kindIn, countsIn}
 use Rattle.rules.specs.Records.{serial, madeName, sentName, uidOf, boxCount, boxesOf, noBox, isLive, filmsOf, filmNamed, serialsUsed}
 use Rattle.rules.specs.Attributes.{Listing, Standing, look, valueOf, fine, mandatory, reference, optionalFilm, filmCreateStandings, filmWith, layoutIn}
 use Rattle.rules.specs.Effects.{tooFewSerials, ownSerials, nameFrom, newBox, newFilm, filmSerials, filmCreated}
@@ -30,7 +30,7 @@ use Rattle.promises.proofs.ListLaws.{each-parts, films-shelved, every-a
 use Rattle.promises.proofs.Facts.{core-facts, core-sound, Counted, counted, live-facts, shelf-facts, shelved-sound, filmRoom, films-few, film-facts, film-sound}
 use Rattle.promises.proofs.Later.{session-later, films-later, queue-later, serials-sound, serials-later}
 use Rattle.promises.proofs.Standings.{AllFine, kept-fine, mandatory-fine, reference-live}
-use Rattle.promises.proofs.Layouts.{counts-lines, layout-sound, new-boxes}
+use Rattle.promises.proofs.Layouts.{counts-lines, kind-sound, layout-sound, new-boxes}
 use Rattle.promises.proofs.Instances.{nobody-named}
 use Rattle.promises.proofs.NewNames.{Sendable, sendable, name-from-sound, apart-later, apart-none, own-below, text-none, text-free}
 use Rattle.promises.proofs.Films.{film-with-sound}
@@ -56,7 +56,7 @@ unfolding layoutIn
 layout-in-sound l e =
     let v = valueOf l 0x2010_0010 in
     let a = not-true (eqb (length (countsIn v)) 0) (mandatory-fine blank (λ v. not (eqb (length (countsIn v)) 0)) l (look l 0x2010_0010) e) in
-    layout-sound (byColumns v) (countsIn v) (counts-lines v (eqb-false (length (countsIn v)) 0 a))
+    layout-sound (kindIn v) (countsIn v) (kind-sound v) (counts-lines v (eqb-false (length (countsIn v)) 0 a))
 
 blank-box : boxBlank noBox ≡ true
 unfolding every

@@ -22,7 +22,7 @@ use Rattle.rules.specs.Records.{madeName, sentName, rootOf, uidOf, named}
 use Rattle.rules.specs.Commands.{uidAt}
 use Rattle.rules.specs.Effects.{ownSerials, nameFrom}
 use Rattle.rules.specs.Checks.{isNobody, isSent, createRules, sentUid}
-use Rattle.rules.specs.Sound.{nameSound, nameBlank, sentSound, madeSound, Serials, overlap, ownSerial, sentText, sameText}
+use Rattle.rules.specs.Sound.{nameSound, sentSound, madeSound, Serials, overlap, ownSerial, sentText, sameText}
 use Rattle.promises.proofs.ListLaws.{all-true, all-holds, zeros-replicate, take-filled, behind-filled}
 use Rattle.promises.proofs.Facts.{between-holds}
 
@@ -88,12 +88,6 @@ own-below n name e = below (eqb (name .made .0) 0) refl e
     below : (t : Bool) → eqb (name .made .0) 0 ≡ t → pick t (sentSound n name) (madeSound n name) ≡ true → name .made .0 + pick t 0 1 ≤ n .serial
     below true t e = let z = eqb-true (name .made .0) 0 t in omega arith
     below false t e = let l = ltb-true (name .made .0) (n .serial) (all-true _ e .0) in omega arith
-
-pub blank-below : (n : ℕ) (name : Name) → nameBlank name ≡ true → ownSerial name .from + ownSerial name .count ≤ n
-blank-below n name e =
-    let z = all-true _ e .0 in
-    let o = eqb-true (name .made .0) 0 z in
-    rw (z, o) (omega arith)
 
 -- Texts differ.
 

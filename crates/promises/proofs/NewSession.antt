@@ -10,7 +10,6 @@ use lib.ListN.{take}
 use borrow.Author.Tests.{leb-true, le-leb}
 use Rattle.choice.specs.Pick.{pick}
 use Rattle.choice.proofs.Picks.{Kept, clash}
-use Rattle.octets.specs.Octets.{same}
 use Rattle.headers.specs.declared.Part.{Part}
 use Rattle.rules.specs.Bounds.{mostFilms}
 use Rattle.rules.specs.declared.Name.{Name}
@@ -20,7 +19,6 @@ use Rattle.rules.specs.declared.Shelf.{Shelf}
 use Rattle.rules.specs.declared.Numbers.{Numbers}
 use Rattle.rules.specs.declared.Core.{Core}
 use Rattle.rules.specs.Lists.{every, apart}
-use Rattle.rules.specs.Values.{withoutLeading, withoutTrailing, trimmed, labelAllowed}
 use Rattle.rules.specs.Records.{filmsOf, isLive, newSession, serialsUsed}
 use Rattle.rules.specs.Attributes.{Listing, sessionWith}
 use Rattle.rules.specs.Effects.{ownSerials, nameFrom, renamed, sessionCreated}
@@ -31,11 +29,12 @@ use Rattle.promises.proofs.Facts.{core-facts, core-sound, counted, shel
 use Rattle.promises.proofs.Later.{queue-later, serials-sound, serials-later}
 use Rattle.promises.proofs.NewNames.{sendable, name-from-sound}
 use Rattle.promises.proofs.Sessions.{values-with}
+use Rattle.rules.proofs.Book.{theBook}
 
 -- The session.
 
 new-values : ValueFacts newSession
-unfolding labelAllowed trimmed withoutLeading withoutTrailing every same
+unfolding theBook
 new-values = record {
   copies = refl;
   priority = refl;

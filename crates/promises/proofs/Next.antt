@@ -23,8 +23,9 @@ use Rattle.rules.specs.declared.State.{State}
 use Rattle.rules.specs.Lists.{every}
 use Rattle.rules.specs.Layout.{recordsSize, unpack}
 use Rattle.rules.specs.Sound.{between, zeros, flag, openSound, openedSound, sound}
-use Rattle.rules.specs.Calls.{Handed, printing}
-use Rattle.rules.specs.Outcomes.{commandHeld, inputIn, recordsIn, written}
+use Rattle.rules.specs.Calls.{handed, printing}
+use Rattle.rules.specs.Records.{commandHeld}
+use Rattle.rules.specs.Outcomes.{inputIn, recordsIn, written}
 use Rattle.promises.proofs.ListLaws.{all-true}
 use Rattle.promises.proofs.Facts.{between-true, core-facts}
 use Rattle.promises.proofs.Collecting.{Fits, in-fits, held-in}
@@ -58,10 +59,10 @@ data-fits o i message h c =
     (λ g. pick-cases So (eqb (i .phase) 4) (skippingData (commandHeld i)) idle (λ j r. c) (λ j r. tt))))
 
 -- what a call leaves, of the records in these bytes and the data in the message buffer
-abbrev pub afterCall : List ℕ → List ℕ → Call Handed → Records Core
+abbrev pub afterCall : List ℕ → List ℕ → Call handed → Records Core
 afterCall b message c = step printing (recordsIn (unpack b) message) c .records
 
-module _ (b message : List ℕ) (c : Call Handed) (o : Bytes b) (bytes : CallBytes c) (e : sound (unpack b) ≡ true) where
+module _ (b message : List ℕ) (c : Call handed) (o : Bytes b) (bytes : CallBytes c) (e : sound (unpack b) ≡ true) where
   -- it keeps the rules, and the input fits its fields
   pub after-sound : sound (stateOf (afterCall b message c)) ≡ true
   after-sound = call-sound (unpack b) message c e

@@ -5,35 +5,33 @@ use mathlib.Core.Path.{_≡_, refl, sym, ap, _∙_, subst}
 use mathlib.Core.Bool.{Bool, true, false}
 use mathlib.Core.List.{List, [], _∷_}
 use native.Mathlib.Omega.{arith}
-use lib.Dec.{eqb, leb, ltb}
+use lib.Dec.{eqb, leb}
 use lib.ListN.{length}
-use borrow.Author.Tests.{ltb-false, le-ltb}
+use borrow.Author.Tests.{le-ltb}
 use Rattle.choice.specs.Pick.{both, not}
-use Rattle.choice.specs.Rules.{_⇒_}
 use Rattle.choice.proofs.Picks.{Kept, both-holds, pick-cases, first-cases, first-kept}
 use Rattle.octets.specs.Octets.{Bytes}
-use Rattle.strike.specs.Service.{Call, start, opening, feed, close, aside, Check, passes, refuses}
+use Rattle.strike.specs.Service.{Call, start, opening, feed, close, Check, passes, refuses}
 use Rattle.strike.specs.Machine as machine
 use Rattle.strike.specs.Machine.{idle, Outcome, Answer, refused, done, told, ignored, wait, dropped, failure, success, Records, checked, step, messageAfter}
 use Rattle.rules.specs.declared.Core.{Core}
 use Rattle.rules.specs.Responses.{Reply}
-use Rattle.rules.specs.declared.Opened.{Opened}
 use Rattle.rules.specs.Layout.{stateFormat, recordsSize, unpack, pack}
 use Rattle.rules.specs.Sound.{coreSound, inputSound, sound}
-use Rattle.rules.specs.Calls.{Handed, startRules, check, started, taken, printing}
+use Rattle.rules.specs.Calls.{Starting, Opening, handed, takeRules, startRules, check, started, taken, printing}
 use Rattle.rules.proofs.Sizes.{records-size}
+use Rattle.rules.proofs.Accepted.{long-enough}
 use Rattle.rules.specs.Outcomes as outcomes
-use Rattle.rules.specs.Outcomes.{recordsIn, inputHeld, written, coreWritten, numberOf, recordsRules, changed, unchanged, orUnchanged, starts, opens, closes, Taking, nothingTaken, tookFrom, took, takes, Feeding, Lent, nothingFed, fedFrom, fedTo, lengths, feeds}
+use Rattle.rules.specs.Outcomes.{recordsIn, inputHeld, written, coreWritten, numberOf, shortRules, recordsRules, changed, unchanged, orUnchanged, called, starts, opens, closes, Taking, nothingTaken, took, takes, Feeding, Lent, nothingFed, fedFrom, fedTo, lengths, feeds}
 use Rattle.promises.proofs.ListLaws.{Each}
-use Rattle.promises.proofs.Calls.{started-sound}
+use Rattle.promises.proofs.Calls.{started-sound, taken-sound}
 use Rattle.fields.specs.Format.{write}
 use Rattle.fields.proofs.Laws.{read-write}
 use Rattle.promises.proofs.Packed.{state-laws}
 use Rattle.promises.proofs.Sized.{Sized}
-use Rattle.promises.proofs.SizedAfter.{started-sized}
+use Rattle.promises.proofs.SizedAfter.{started-sized, taken-sized}
 use Rattle.promises.proofs.Collecting.{fits-sound}
-use Rattle.promises.proofs.Kept.{stateOf, sound-parts, call-sound}
-use Rattle.promises.proofs.SizedSteps.{step-sized}
+use Rattle.promises.proofs.Kept.{stateOf, sound-parts}
 use Rattle.promises.proofs.Good.{Byte, good-core, written-back}
 use Rattle.promises.proofs.Unpacked.{unpacked-good, unpacked-sized, CallBytes}
 use Rattle.promises.proofs.Next.{afterCall, next-sound}
@@ -47,10 +45,7 @@ RulesKept b = sound (unpack b) ≡ true
 pub no-refusal : (b : List ℕ) → RulesKept b → both (leb recordsSize (length b)) (not (sound (unpack b))) ≡ false
 no-refusal b e = rw e (pick-cases (λ (x : Bool). x ≡ false) (leb recordsSize (length b)) false false (λ f. refl) (λ f. refl))
 
-long-enough : (b : List ℕ) → Kept (recordsRules b) → recordsSize ≤ length b
-long-enough b r = ltb-false (length b) recordsSize (r .1 .0)
-
-stepped : (b message : List ℕ) (c : Call Handed) → Bytes b → CallBytes c → RulesKept b → Kept (recordsRules b) → RulesKept (written (afterCall b message c) b)
+stepped : (b message : List ℕ) (c : Call handed) → Bytes b → CallBytes c → RulesKept b → Kept (recordsRules b) → RulesKept (written (afterCall b message c) b)
 stepped b message c o bytes e r = next-sound b message c o bytes e (long-enough b r)
 
 abbrev LeavesKept : outcomes.Outcome → Type 0
@@ -59,17 +54,18 @@ LeavesKept x = RulesKept (x .records)
 or-unchanged : (b : List ℕ) (x : machine.Step Core Reply (List ℕ)) → RulesKept b → RulesKept (written (x .records) b) → LeavesKept (orUnchanged b x)
 or-unchanged b x e f = pick-cases LeavesKept (eqb (numberOf (x .answer)) 0) (changed b x) (unchanged b (numberOf (x .answer))) (λ p. f) (λ p. e)
 
-pub opens-sound : (b : List ℕ) (h : Handed) → Bytes b → RulesKept b → RulesKept (opens b h .records)
-unfolding opens
-opens-sound b h o e =
-    let x = step printing (recordsIn (unpack b) []) (opening h) in
-    first-cases LeavesKept (unchanged b) (recordsRules b) (orUnchanged b x) (λ n. e) (λ r. or-unchanged b x e (stepped b [] (opening h) o tt e r))
+called-sound : (b : List ℕ) (c : Call handed) → Bytes b → CallBytes c → RulesKept b → LeavesKept (called (recordsRules b) b c)
+called-sound b c o bytes e =
+    let x = step printing (recordsIn (unpack b) []) c in
+    first-cases LeavesKept (unchanged b) (recordsRules b) (orUnchanged b x) (λ n. e) (λ r. or-unchanged b x e (stepped b [] c o bytes e r))
 
-pub closes-sound : (b : List ℕ) (h : Handed) → Bytes b → RulesKept b → RulesKept (closes b h .records)
+pub opens-sound : (b : List ℕ) (h : Opening) → Bytes b → RulesKept b → RulesKept (opens b h .records)
+unfolding opens
+opens-sound b h o e = called-sound b (opening h) o tt e
+
+pub closes-sound : (b : List ℕ) → Bytes b → RulesKept b → RulesKept (closes b .records)
 unfolding closes
-closes-sound b h o e =
-    let x = step printing (recordsIn (unpack b) []) (close h) in
-    first-cases LeavesKept (unchanged b) (recordsRules b) (orUnchanged b x) (λ n. e) (λ r. or-unchanged b x e (stepped b [] (close h) o tt e r))
+closes-sound b o e = called-sound b close o tt e
 
 -- A take: the input's bytes stay.
 
@@ -83,32 +79,21 @@ core-written-sound : (k : Core) (b : List ℕ) → Bytes b → recordsSize ≤ l
 unfolding sound
 core-written-sound k b o long e z i = ap sound (core-written-back k b o long e z) ∙ both-holds (coreSound k) (inputSound (k .opened) (unpack b .input)) e i
 
-open-kept : (x : Check) (s : Records Core) (h : Handed) → checked printing x s (aside h) .records .core .opened ≡ s .core .opened
-unfolding checked taken
-open-kept (refuses n) s h = refl
-open-kept passes s h = refl
+taken-kept : (b : List ℕ) → Bytes b → RulesKept b → Kept (recordsRules b) → RulesKept (coreWritten (taken (unpack b .core) .0) b)
+unfolding taken
+taken-kept b o e r =
+    let k = unpack b .core in
+    let parts = sound-parts (unpack b) e in
+    core-written-sound (taken k .0) b o (long-enough b r) (taken-sound k (parts .0)) (taken-sized k (unpacked-sized b o)) (parts .1)
 
-took-sound : (r : Records Core) (b e : List ℕ) (a : Answer Reply (List ℕ)) → RulesKept b → RulesKept (coreWritten (r .core) b) → RulesKept (tookFrom r b e a .records)
-took-sound r b e (told bytes) p q = q
-took-sound r b e (refused n) p q = p
-took-sound r b e done p q = p
-took-sound r b e ignored p q = p
-took-sound r b e wait p q = p
-took-sound r b e dropped p q = p
-took-sound r b e (failure reply d) p q = p
-took-sound r b e (success reply d) p q = p
-
-pub takes-sound : (b entry : List ℕ) (h : Handed) → Bytes b → RulesKept b → RulesKept (takes b entry h .records)
-unfolding takes step
-takes-sound b entry h o e =
-    let x = step printing (recordsIn (unpack b) []) (aside h) in
-    first-cases (λ (t : Taking). RulesKept (t .records)) (nothingTaken b entry) (recordsRules b) (took b entry x)
-    (λ n. e)
-    (λ r. took-sound (x .records) b entry (x .answer) e
-    (core-written-sound (x .records .core) b o (long-enough b r)
-    (sound-parts (stateOf (x .records)) (call-sound (unpack b) [] (aside h) e) .0)
-    (step-sized (recordsIn (unpack b) []) (aside h) (unpacked-sized b o))
-    (ap (λ (w : Opened). inputSound w (unpack b .input)) (open-kept (check (unpack b .core) (aside h)) (recordsIn (unpack b) []) h) ∙ sound-parts (unpack b) e .1)))
+pub takes-sound : (b entry : List ℕ) → Bytes b → RulesKept b → RulesKept (takes b entry .records)
+unfolding takes
+takes-sound b entry o e =
+    let k = unpack b .core in
+    let So : Taking → Type 0 = λ t. RulesKept (t .records) in
+    let refused = nothingTaken b entry in
+    first-cases So refused (recordsRules b) _ (λ n. e)
+    (λ r. first-cases So refused (takeRules k (length entry)) (took b entry (taken k)) (λ n. e) (λ q. taken-kept b o e r))
 
 fed-from-sound : (l : Lent) (r : Records Core) (message : List ℕ) (a : Answer Reply (List ℕ)) → RulesKept (l .records) → RulesKept (written r (l .records)) → RulesKept (fedFrom l r message a .records)
 fed-from-sound l r message (refused n) p q = pick-cases (λ (f : Feeding). RulesKept (f .records)) (eqb n 5) (outcomes.fedOnly l r message 5) (nothingFed l n) (λ e. q) (λ e. p)
@@ -132,25 +117,25 @@ feeds-sound l fragment o bytes e =
 
 -- Start: whatever bytes were there before.
 
-start-passes : (k : Core) (h : Handed) → Kept (startRules h) → check k (start h) ≡ passes
+start-passes : (k : Core) (h : Starting) → Kept (startRules h) → check k (start h) ≡ passes
 unfolding check
 start-passes k h r = first-kept refuses (startRules h) passes r
 
-started-records : (b : List ℕ) (s : Records Core) (h : Handed) (x : Check) → x ≡ passes → orUnchanged b (checked printing x s (start h)) .records ≡ written (record { core = started h; input = idle }) b
+started-records : (b : List ℕ) (s : Records Core) (h : Starting) (x : Check) → x ≡ passes → orUnchanged b (checked printing x s (start h)) .records ≡ written (record { core = started h; input = idle }) b
 unfolding checked numberOf
 started-records b s h passes e = refl
 started-records b s h (refuses n) e = absurd (let z : _≡_ {A = ℕ} 0 1 = cc in omega arith)
 
-pub fresh-sound : (h : Handed) → Kept (startRules h) → sound (stateOf (record { core = started h; input = idle })) ≡ true
+pub fresh-sound : (h : Starting) → Kept (startRules h) → sound (stateOf (record { core = started h; input = idle })) ≡ true
 unfolding sound
 fresh-sound h r = both-holds (coreSound (started h)) (inputSound (started h .opened) (inputHeld idle)) (started-sound h r) (fits-sound (started h .opened) idle tt)
 
-pub starts-sound : (b : List ℕ) (h : Handed) → recordsSize ≤ length b → Kept (startRules h) → RulesKept (starts b h .records)
+pub starts-sound : (b : List ℕ) (h : Starting) → recordsSize ≤ length b → Kept (startRules h) → RulesKept (starts b h .records)
 unfolding starts step
 starts-sound b h long r =
     let s = recordsIn (unpack b) [] in
     let x = orUnchanged b (checked printing (check (unpack b .core) (start h)) s (start h)) in
-    let e = first-kept (unchanged b) ((ltb (length b) recordsSize ⇒ 2) ∷ []) x (le-ltb (length b) recordsSize long, tt) in
+    let e = first-kept (unchanged b) (shortRules b) x (le-ltb (length b) recordsSize long, tt) in
     let f : starts b h .records ≡ written (record { core = started h; input = idle }) b =
     ap (λ (y : outcomes.Outcome). y .records) e ∙ started-records b s h (check (unpack b .core) (start h)) (start-passes (unpack b .core) h r) in
     let m : Records Core = record { core = started h; input = idle } in

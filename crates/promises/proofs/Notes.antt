@@ -12,6 +12,7 @@ use Rattle.choice.specs.Rules.{Rule, _⇒_, firstOr}
 use Rattle.choice.proofs.Picks.{pick-cases, both-second, Kept}
 use Rattle.strike.specs.Service.{DataSet, Result}
 use Rattle.rules.specs.Bounds.{mostFilms, noneLeft}
+use Rattle.rules.specs.declared.Name.{Name}
 use Rattle.rules.specs.declared.Core.{Core}
 use Rattle.rules.specs.declared.Operation.{Operation}
 use Rattle.rules.specs.declared.Operation.the-variants.{Echo, Create, Set, Act, Delete}
@@ -19,22 +20,30 @@ use Rattle.rules.specs.declared.Request.{Request}
 use Rattle.rules.specs.declared.Command.{Command}
 use Rattle.rules.specs.declared.Command.the-variants.{Unreadable, Unknown, Known}
 use Rattle.rules.specs.Lists.{any}
-use Rattle.rules.specs.Records.{Instance, nobody, theSession, theFilm, theBox, named, filmsOf, isLive, boxCount, explicitVR}
+use Rattle.rules.specs.declared.Instance.{Instance}
+use Rattle.rules.specs.declared.Instance.the-variants.{Nobody, TheSession, TheFilm, TheBox}
+use Rattle.rules.specs.Records.{sentName, named, filmsOf, isLive, boxCount, syntaxIn}
 use Rattle.rules.specs.Commands.{uidAt, understood}
-use Rattle.rules.specs.Attributes.{Listing, listingOf, attributeRules, boxStandings, Image, keeps, erases, tooMany, fills, imageIn, isFill}
-use Rattle.rules.specs.Responses.{Note, noNote, filmsQueued, pictureAt, Reply, reply}
+use Rattle.rules.specs.declared.Image.{Image}
+use Rattle.rules.specs.declared.Image.the-variants.{Keeps, Erases, TooMany, Fills}
+use Rattle.rules.specs.Attributes.{Listing, listingOf, attributeRules, boxStandings, imageIn, isFill}
+use Rattle.rules.specs.declared.Note.{Note}
+use Rattle.rules.specs.declared.Note.the-variants.{NoNote, FilmsQueued, PictureAt}
+use Rattle.rules.specs.Responses.{Reply, reply}
 use Rattle.rules.specs.Effects.{noPictureLeft, filmAt, noneFilled}
 use Rattle.rules.specs.Sound.{coreSound}
-use Rattle.rules.specs.Checks.{Class, verification, sessions, films, boxes, unknownClass, classOf, generalRules, createRules, targetRules, boxRules, Plan, nothing, imageNote, sentUid, createPlan, setPlan, actionPlan, deletePlan, planOf, dataOf, failed, answered, decideRequest, decideCommand, decide}
+use Rattle.rules.specs.declared.Class.{Class}
+use Rattle.rules.specs.declared.Class.the-variants.{Verification, Sessions, Films, Boxes, UnknownClass}
+use Rattle.rules.specs.Checks.{classOf, generalRules, createRules, targetRules, boxRules, Plan, nothing, imageNote, sentUid, createPlan, setPlan, actionPlan, deletePlan, planOf, failed, resultOf, decideRequest, decideCommand, decide}
 use Rattle.promises.proofs.Facts.{between-true, core-facts, numbers-facts, filmRoom, films-few}
-use Rattle.promises.proofs.Decided.{kept-both, replyOf}
+use Rattle.promises.proofs.Decided.{reply-of, kept-both, replyOf}
 use Rattle.promises.proofs.Pictures.{pixels-within}
 
 -- what a note may tell, of a data set of so many bytes
 abbrev pub NoteWithin : ℕ → Note → Type 0
-NoteWithin bytes noNote = Unit {0}
-NoteWithin bytes (filmsQueued n) = (1 ≤ n) × (n ≤ mostFilms)
-NoteWithin bytes (pictureAt n place size) = (1 ≤ n) × (n < noneLeft) × (place + size ≤ bytes)
+NoteWithin bytes NoNote = Unit {0}
+NoteWithin bytes (FilmsQueued n) = (1 ≤ n) × (n ≤ mostFilms)
+NoteWithin bytes (PictureAt n place size) = (1 ≤ n) × (n < noneLeft) × (place + size ≤ bytes)
 
 -- the number of each rule is below a bound
 abbrev pub AllBelow : ℕ → List Rule → Type 0
@@ -54,13 +63,13 @@ Tells bytes status note = (status < 65536) × NoteWithin bytes note
 
 -- the statuses of a plan's rules, and what is told where none of them is broken
 abbrev PlanTells : ℕ → Plan → Type 0
-PlanTells bytes p = AllBelow 65536 (p .rules) × (Kept (p .rules) → Tells bytes (p .done .status) (p .done .note))
+PlanTells bytes p = AllBelow 65536 (p .rules) × (Kept (p .rules) → Tells bytes (p .verdict .status) (p .verdict .note))
 
 abbrev ReplyTells : ℕ → Result Core Reply → Type 0
 ReplyTells bytes x = Tells bytes (replyOf x .status) (replyOf x .note)
 
 -- nothing is told but that all is well
-quiet : (bytes : ℕ) → Tells bytes 0 noNote
+quiet : (bytes : ℕ) → Tells bytes 0 NoNote
 quiet bytes = (omega arith, tt)
 
 nothing-tells : (bytes : ℕ) (k : Core) → PlanTells bytes (nothing k)
@@ -68,47 +77,47 @@ nothing-tells bytes k = (tt, λ _. quiet bytes)
 
 create-tells : (bytes : ℕ) (k : Core) (class : Class) (sent : List ℕ) (l : Listing) → PlanTells bytes (createPlan k class sent l)
 unfolding createPlan
-create-tells bytes k verification sent l = nothing-tells bytes k
-create-tells bytes k sessions sent l = (omega arith, λ _. quiet bytes)
-create-tells bytes k films sent l = (omega arith, λ _. quiet bytes)
-create-tells bytes k boxes sent l = nothing-tells bytes k
-create-tells bytes k unknownClass sent l = nothing-tells bytes k
+create-tells bytes k Verification sent l = nothing-tells bytes k
+create-tells bytes k Sessions sent l = (omega arith, λ _. quiet bytes)
+create-tells bytes k Films sent l = (omega arith, λ _. quiet bytes)
+create-tells bytes k Boxes sent l = nothing-tells bytes k
+create-tells bytes k UnknownClass sent l = nothing-tells bytes k
 
-delete-tells : (bytes : ℕ) (k : Core) (x : Instance) (uid : List ℕ) → PlanTells bytes (deletePlan k x uid)
+delete-tells : (bytes : ℕ) (k : Core) (x : Instance) (name : Name) → PlanTells bytes (deletePlan k x name)
 unfolding deletePlan
-delete-tells bytes k nobody uid = nothing-tells bytes k
-delete-tells bytes k theSession uid = (tt, λ _. quiet bytes)
-delete-tells bytes k (theFilm i) uid = (tt, λ _. quiet bytes)
-delete-tells bytes k (theBox i j) uid = nothing-tells bytes k
+delete-tells bytes k Nobody name = nothing-tells bytes k
+delete-tells bytes k TheSession name = (tt, λ _. quiet bytes)
+delete-tells bytes k (TheFilm i) name = (tt, λ _. quiet bytes)
+delete-tells bytes k (TheBox i j) name = nothing-tells bytes k
 
 -- a warning, or 0
 warned : (t : Bool) (warning : ℕ) → warning < 65536 → pick t warning 0 < 65536
 warned t warning h = pick-cases (λ (n : ℕ). n < 65536) t warning 0 (λ _. h) (λ _. omega arith)
 
 module _ (k : Core) (sound : coreSound k ≡ true) where
-  image-tells : (i : ℕ) (l : Listing) → l .inside .from ≤ l .inside .stop → Kept (boxRules k i l) → (image : Image) → imageIn l ≡ image → NoteWithin (l .inside .stop) (imageNote k image)
-  image-tells i l h kept keeps e = tt
-  image-tells i l h kept erases e = tt
-  image-tells i l h kept tooMany e = tt
-  image-tells i l h kept (fills item) e =
+  image-tells : (i : ℕ) (l : Listing) → l .scope .inside .from ≤ l .scope .inside .stop → Kept (boxRules k i l) → (image : Image) → imageIn l ≡ image → NoteWithin (l .scope .inside .stop) (imageNote k l image)
+  image-tells i l h kept Keeps e = tt
+  image-tells i l h kept Erases e = tt
+  image-tells i l h kept TooMany e = tt
+  image-tells i l h kept (Fills inside) e =
       let boxes = boxCount (filmAt k i .layout) in
       let parts = kept-both (attributeRules (boxStandings boxes l)) ((both (isFill (imageIn l)) (noPictureLeft (k .numbers)) ⇒ 0x0213) ∷ []) kept in
       let left = eqb-false (k .numbers .picture) noneLeft (both-second (isFill (imageIn l)) (noPictureLeft (k .numbers)) (parts .1 .0) (ap isFill e)) in
       let number = between-true 1 noneLeft (k .numbers .picture) (numbers-facts (k .numbers) (core-facts k sound .numbers) .picture) in
-      let within = pixels-within boxes l item (parts .0) e h in
+      let within = pixels-within boxes l inside (parts .0) e h in
       (number .0, omega (arith, number .1), omega arith)
 
-  set-tells : (x : Instance) (uid : List ℕ) (l : Listing) → l .inside .from ≤ l .inside .stop → PlanTells (l .inside .stop) (setPlan k x uid l)
+  set-tells : (x : Instance) (name : Name) (l : Listing) → l .scope .inside .from ≤ l .scope .inside .stop → PlanTells (l .scope .inside .stop) (setPlan k x name l)
   unfolding setPlan
-  set-tells nobody uid l h = nothing-tells (l .inside .stop) k
-  set-tells theSession uid l h = (omega arith, λ _. quiet (l .inside .stop))
-  set-tells (theFilm i) uid l h = (omega arith, λ _. quiet (l .inside .stop))
-  set-tells (theBox i j) uid l h = (omega arith, λ kept. (omega arith, image-tells i l h kept (imageIn l) refl))
+  set-tells Nobody name l h = nothing-tells (l .scope .inside .stop) k
+  set-tells TheSession name l h = (omega arith, λ _. quiet (l .scope .inside .stop))
+  set-tells (TheFilm i) name l h = (omega arith, λ _. quiet (l .scope .inside .stop))
+  set-tells (TheBox i j) name l h = (omega arith, λ kept. (omega arith, image-tells i l h kept (imageIn l) refl))
 
-  action-tells : (bytes : ℕ) (x : Instance) (uid : List ℕ) → PlanTells bytes (actionPlan k x uid)
+  action-tells : (bytes : ℕ) (x : Instance) (name : Name) → PlanTells bytes (actionPlan k x name)
   unfolding actionPlan
-  action-tells bytes nobody uid = nothing-tells bytes k
-  action-tells bytes theSession uid =
+  action-tells bytes Nobody name = nothing-tells bytes k
+  action-tells bytes TheSession name =
       let few = films-few (k .numbers) (k .session) (k .shelf) (core-facts k sound .shelf) in
       let most : filmRoom (k .session) ≤ mostFilms = pick-cases (λ (n : ℕ). n ≤ mostFilms) (isLive (k .session)) mostFilms 0 (λ _. omega arith) (λ _. omega arith) in (
         omega arith,
@@ -116,35 +125,39 @@ module _ (k : Core) (sound : coreSound k ≡ true) where
             let some = eqb-false (length (filmsOf (k .shelf))) 0 (kept .0) in
             (warned (any noneFilled (filmsOf (k .shelf))) 0xB602 (omega arith), omega arith),
       )
-  action-tells bytes (theFilm i) uid = (omega arith, λ kept. (warned (any noneFilled (filmAt k i ∷ [])) 0xB603 (omega arith), omega arith))
-  action-tells bytes (theBox i j) uid = nothing-tells bytes k
+  action-tells bytes (TheFilm i) name = (omega arith, λ kept. (warned (any noneFilled (filmAt k i ∷ [])) 0xB603 (omega arith), omega arith))
+  action-tells bytes (TheBox i j) name = nothing-tells bytes k
 
-  plan-tells : (c : List ℕ) (d : DataSet) (o : Operation) → PlanTells (length (dataOf d)) (planOf k c d o)
+  plan-tells : (c : List ℕ) (d : DataSet) (o : Operation) → PlanTells (length (d .bytes)) (planOf k c (d .bytes) o)
   unfolding planOf createRules targetRules
-  plan-tells c d (Echo r) = nothing-tells (length (dataOf d)) k
+  plan-tells c d (Echo r) = nothing-tells (length (d .bytes)) k
   plan-tells c d (Create r) =
-      let p = create-tells (length (dataOf d)) k (classOf (uidAt c (r .class))) (sentUid c (r .sent)) (listingOf (dataOf d) (explicitVR k)) in
+      let p = create-tells (length (d .bytes)) k (classOf (uidAt c (r .class))) (sentUid c (r .sent)) (listingOf (d .bytes) (syntaxIn k)) in
       ((omega arith, (omega arith, p .0)), λ kept. p .1 (kept .1 .1))
   plan-tells c d (Set r) =
-      let p = set-tells (named k (uidAt c (r .instance))) (uidAt c (r .instance)) (listingOf (dataOf d) (explicitVR k)) (omega arith) in
+      let p = set-tells (named k (uidAt c (r .instance))) (sentName (uidAt c (r .instance))) (listingOf (d .bytes) (syntaxIn k)) (omega arith) in
       ((omega arith, (omega arith, p .0)), λ kept. p .1 (kept .1 .1))
   plan-tells c d (Act r) =
-      let p = action-tells (length (dataOf d)) (named k (uidAt c (r .instance))) (uidAt c (r .instance)) in
+      let p = action-tells (length (d .bytes)) (named k (uidAt c (r .instance))) (sentName (uidAt c (r .instance))) in
       ((omega arith, (omega arith, (omega arith, p .0))), λ kept. p .1 (kept .1 .1 .1))
   plan-tells c d (Delete r) =
-      let p = delete-tells (length (dataOf d)) k (named k (uidAt c (r .instance))) (uidAt c (r .instance)) in
+      let p = delete-tells (length (d .bytes)) k (named k (uidAt c (r .instance))) (sentName (uidAt c (r .instance))) in
       ((omega arith, (omega arith, p .0)), λ kept. p .1 (kept .1 .1))
 
-  request-tells : (c : List ℕ) (d : DataSet) (r : Request) → ReplyTells (length (dataOf d)) (decideRequest k c d r)
-  unfolding decideRequest generalRules reply
-  request-tells c d r =
+  verdict-tells : (c : List ℕ) (d : DataSet) (r : Request) → Tells (length (d .bytes)) (decideRequest k c d r .status) (decideRequest k c d r .note)
+  unfolding decideRequest generalRules
+  verdict-tells c d r =
       let p = plan-tells c d (r .operation) in
-      below-cases (ReplyTells (length (dataOf d))) 65536 (failed c r) (generalRules k c d (r .operation) ++ planOf k c d (r .operation) .rules) (answered c r (planOf k c d (r .operation) .done))
+      below-cases (λ v. Tells (length (d .bytes)) (v .status) (v .note)) 65536 (failed k c r NoNote) (generalRules k c d (r .operation) ++ planOf k c (d .bytes) (r .operation) .rules) (planOf k c (d .bytes) (r .operation) .verdict)
       (omega arith, (omega arith, (omega arith, (omega arith, p .0))))
       (λ n h. (h, tt))
       (λ kept. p .1 (kept .1 .1 .1 .1))
 
-  command-tells : (c : List ℕ) (d : DataSet) (o : Command) → ReplyTells (length (dataOf d)) (decideCommand k c d o)
+  request-tells : (c : List ℕ) (d : DataSet) (r : Request) → ReplyTells (length (d .bytes)) (resultOf k c r (decideRequest k c d r))
+  unfolding reply
+  request-tells c d r = rw (reply-of k c r (decideRequest k c d r)) (verdict-tells c d r)
+
+  command-tells : (c : List ℕ) (d : DataSet) (o : Command) → ReplyTells (length (d .bytes)) (decideCommand k c d o)
   unfolding reply
   command-tells c d Unreadable = omega arith
   command-tells c d (Unknown message field) = omega arith
@@ -157,6 +170,6 @@ module _ (k : Core) (sound : coreSound k ≡ true) where
     status-small = command-tells c d (understood c) .0
 
     -- A note tells of 1 to 8 films, or of a picture's number from 1 to 4,294,967,295 and of pixels that lie within the data set.
-    pub note-within : NoteWithin (length (dataOf d)) (replyOf (decide k c d) .note)
+    pub note-within : NoteWithin (length (d .bytes)) (replyOf (decide k c d) .note)
     unfolding decide
     note-within = command-tells c d (understood c) .1

@@ -10,23 +10,25 @@ use lib.ListN.{length, getD, set}
 use lib.Seq.{getD-set-same}
 use borrow.Author.Tests.{ltb-false, eqb-false, eq-eqb, ne-eqb}
 use Rattle.choice.proofs.Picks.{Kept, pick-cases, both-second, clash}
-use Rattle.strike.specs.Service.{DataSet, does, Call, start}
+use Rattle.strike.specs.Service.{Call, start}
 use Rattle.strike.specs.Machine.{Records, step}
 use Rattle.rules.specs.declared.Numbers.{Numbers}
 use Rattle.rules.specs.declared.Core.{Core}
 use Rattle.rules.specs.Bounds.{noneLeft}
-use Rattle.rules.specs.Records.{boxCount, filmsOf, noFilm, noBox, pictureUsed, theBox, named}
-use Rattle.rules.specs.Attributes.{Listing, Image, keeps, erases, tooMany, fills, imageIn, isFill, boxWith, pictureAfter, filmWith}
-use Rattle.rules.specs.Effects.{ownSerials, nameFrom, noPictureLeft, numbersAfter, sessionCreated, newFilm, filmSerials, filmCreated, sessionSet, filmSet, boxSet, boxSetIn, filmAt, sessionDeleted, filmDeleted, printed}
-use Rattle.rules.specs.Responses.{Reply}
-use Rattle.rules.specs.Checks.{newSessionRules, newFilmRules, boxRules, decide}
+use Rattle.rules.specs.declared.Instance.the-variants.{TheBox}
+use Rattle.rules.specs.Records.{boxCount, filmsOf, noFilm, noBox, pictureUsed, named}
+use Rattle.rules.specs.declared.Image.{Image}
+use Rattle.rules.specs.declared.Image.the-variants.{Keeps, Erases, TooMany, Fills}
+use Rattle.rules.specs.Attributes.{Listing, imageIn, isFill, boxWith, pictureAfter, filmWith}
+use Rattle.rules.specs.Effects.{ownSerials, nameFrom, noPictureLeft, numbersAfter, sessionCreated, newFilm, filmSerials, filmCreated, boxSet, boxSetIn, filmAt}
+use Rattle.rules.specs.Checks.{newSessionRules, newFilmRules, boxRules}
 use Rattle.rules.specs.Sound.{filmSound, coreSound}
-use Rattle.rules.specs.Calls.{Handed, opened, closed, taken, printing}
+use Rattle.rules.specs.Calls.{Starting, Opening, handed, opened, closed, taken, printing}
 use Rattle.promises.proofs.ListLaws.{films-shelved, every-at}
 use Rattle.promises.proofs.Facts.{core-facts, shelf-facts, film-facts}
 use Rattle.promises.proofs.Layouts.{boxes-most}
 use Rattle.promises.proofs.Instances.{named-box}
-use Rattle.promises.proofs.Decided.{After, decided-does}
+use Rattle.promises.proofs.Decided.{After, theEffects}
 use Rattle.promises.proofs.Steps.{AfterCalls, step-kept}
 
 -- next numbers are never lower
@@ -46,7 +48,7 @@ box-numbers image n =
 
 module _ (k : Core) where
   after-grown : After (λ k'. Grown (k .numbers) (k' .numbers)) k
-  unfolding sessionCreated filmCreated sessionSet filmSet boxSet printed sessionDeleted filmDeleted
+  unfolding theEffects
   after-grown = record {
     kept = same-numbers (k .numbers);
     newSession = λ c sent l a b. record { serials = omega arith; pictures = omega arith };
@@ -60,12 +62,8 @@ module _ (k : Core) where
     noFilm = λ uid i e. same-numbers (k .numbers);
   }
 
-  -- a request that is done lowers no next number; one that fails changes none, having no records
-  pub numbers-grow : (c : List ℕ) (d : DataSet) (k' : Core) (r : Reply) → decide k c d ≡ does k' r → Grown (k .numbers) (k' .numbers)
-  numbers-grow = decided-does (λ k'. Grown (k .numbers) (k' .numbers)) k after-grown
-
   -- nor do the other calls but start
-  pub opened-numbers : (h : Handed) → opened k h .numbers ≡ k .numbers
+  pub opened-numbers : (h : Opening) → opened k h .numbers ≡ k .numbers
   unfolding opened
   opened-numbers h = refl
 
@@ -73,15 +71,15 @@ module _ (k : Core) where
   unfolding closed
   closed-numbers = refl
 
-  pub taken-numbers : (h : Handed) → taken k h .0 .numbers ≡ k .numbers
+  pub taken-numbers : taken k .0 .numbers ≡ k .numbers
   unfolding taken
-  taken-numbers h = refl
+  taken-numbers = refl
 
   each-grown : AfterCalls (λ k'. Grown (k .numbers) (k' .numbers)) k
   each-grown = record {
     open-kept = λ h r. rw (opened-numbers h) (same-numbers (k .numbers));
     close-kept = rw closed-numbers (same-numbers (k .numbers));
-    take-kept = λ h r. rw (taken-numbers h) (same-numbers (k .numbers));
+    take-kept = rw taken-numbers (same-numbers (k .numbers));
     request-kept = after-grown;
   }
 
@@ -136,10 +134,10 @@ module _ (k : Core) (sent : List ℕ) (l : Listing) where
 
 -- the picture of an image that fills
 fill-picture : (next old : ℕ) (image : Image) → isFill image ≡ true → pictureAfter next image old ≡ next
-fill-picture next old keeps e = absurd (clash refl e)
-fill-picture next old erases e = absurd (clash refl e)
-fill-picture next old tooMany e = absurd (clash refl e)
-fill-picture next old (fills item) e = refl
+fill-picture next old Keeps e = absurd (clash refl e)
+fill-picture next old Erases e = absurd (clash refl e)
+fill-picture next old TooMany e = absurd (clash refl e)
+fill-picture next old (Fills inside) e = refl
 
 module _ (k : Core) (i j : ℕ) (l : Listing) (fill : isFill (imageIn l) ≡ true) where
   -- a box that is filled gets the picture number that was next
@@ -162,7 +160,7 @@ module _ (k : Core) (i j : ℕ) (l : Listing) (fill : isFill (imageIn l) ≡ tru
       omega arith
 
 -- so the box that a UID names, where its film has room for 36 boxes, as its bytes have
-pub filled-picture : (k : Core) (uid : List ℕ) (i j : ℕ) (l : Listing) → coreSound k ≡ true → length (filmAt k i .boxes) ≡ 36 → named k uid ≡ theBox i j → isFill (imageIn l) ≡ true → getD (filmAt (boxSet k i j l) i .boxes) j noBox .picture .0 ≡ k .numbers .picture
+pub filled-picture : (k : Core) (uid : List ℕ) (i j : ℕ) (l : Listing) → coreSound k ≡ true → length (filmAt k i .boxes) ≡ 36 → named k uid ≡ TheBox i j → isFill (imageIn l) ≡ true → getD (filmAt (boxSet k i j l) i .boxes) j noBox .picture .0 ≡ k .numbers .picture
 filled-picture k uid i j l e room b fill =
     let t = named-box k uid i j b in
     let film = every-at (filmSound (k .numbers)) (filmsOf (k .shelf)) i noFilm (shelf-facts (k .numbers) (k .session) (k .shelf) (core-facts k e .shelf) .films) (t .0) in
@@ -177,9 +175,6 @@ box-kept-numbers k i j l e = rw e
 
 -- None is used twice.
 
-pub grown-then : (a b c : Numbers) → Grown a b → Grown b c → Grown a c
-grown-then a b c f g = record { serials = omega (arith, f .serials, g .serials); pictures = omega (arith, f .pictures, g .pictures) }
-
 -- a serial that is taken later is another
 pub serial-once : (a b c d : Numbers) (x y : ℕ) → Taken a b x → Grown b c → Taken c d y → x < y
 serial-once a b c d x y f g h = omega (arith, f .below, g .serials, h .unused)
@@ -189,5 +184,5 @@ pub picture-once : (k : Core) (i j : ℕ) (l : Listing) → isFill (imageIn l) �
 picture-once k i j l fill later g = omega (arith, next-picture k i j l fill, g .pictures)
 
 -- any call but start
-pub call-grown : (s : Records Core) (c : Call Handed) → ((h : Handed) → c ≡ start h → ⊥) → Grown (s .core .numbers) (step printing s c .records .core .numbers)
+pub call-grown : (s : Records Core) (c : Call handed) → ((h : Starting) → c ≡ start h → ⊥) → Grown (s .core .numbers) (step printing s c .records .core .numbers)
 call-grown s c f = step-kept (λ k. Grown (s .core .numbers) (k .numbers)) s (each-grown (s .core)) c (λ h e r. absurd (f h e))

@@ -16,11 +16,13 @@ use Rattle.strike.specs.Machine.{Records}
 use Rattle.strike.specs.Messages.{after}
 use Rattle.rules.specs.declared.Core.{Core}
 use Rattle.rules.specs.Lists.{any, placeOf}
-use Rattle.rules.specs.Records.{rootOf, uidOf, boxCount, filmsOf, noFilm, isLive, Instance, nobody, theSession, theFilm, theBox, boxUids, filmNamed, boxNamed, boxOf, named}
+use Rattle.rules.specs.declared.Instance.{Instance}
+use Rattle.rules.specs.declared.Instance.the-variants.{Nobody, TheSession, TheFilm, TheBox}
+use Rattle.rules.specs.Records.{rootOf, uidOf, boxCount, filmsOf, noFilm, isLive, boxUids, filmNamed, boxNamed, boxOf, named}
 use Rattle.rules.specs.Effects.{filmAt}
 use Rattle.rules.specs.Checks.{isNobody}
 use Rattle.rules.specs.Sound.{coreSound}
-use Rattle.rules.specs.Calls.{Handed, printing}
+use Rattle.rules.specs.Calls.{handed, printing}
 use Rattle.promises.proofs.ListLaws.{place-below, place-passes, none-at, joined-one, map-at}
 use Rattle.promises.proofs.Facts.{core-facts, filmRoom, films-few}
 use Rattle.promises.proofs.Instances.{named-film, named-box, box-uids-length, box-uid-at, nobody-named}
@@ -30,33 +32,33 @@ use Rattle.promises.proofs.LiveUids.{filmUids, uidLists, uids-differ}
 -- the session is live, and its UID names it
 pub record LiveSession (k : Core) : Type 0 where
   pub live : isLive (k .session) ≡ true
-  pub names : named k (uidOf (k .numbers) (k .session .name)) ≡ theSession
+  pub names : named k (uidOf (k .numbers) (k .session .name)) ≡ TheSession
 
 -- a film is on the shelf, its UID names it, and its session is live
 pub record LiveFilm (k : Core) (i : ℕ) : Type 0 where
   pub there : i < length (filmsOf (k .shelf))
-  pub names : named k (uidOf (k .numbers) (filmAt k i .name)) ≡ theFilm i
+  pub names : named k (uidOf (k .numbers) (filmAt k i .name)) ≡ TheFilm i
   pub session : LiveSession k
 
 -- a box is one of its film's, its UID names it, and its film is live
 pub record LiveBox (k : Core) (i j : ℕ) : Type 0 where
   pub there : j < boxCount (filmAt k i .layout)
-  pub names : named k (made (rootOf (k .numbers)) (filmAt k i .first .0 + j)) ≡ theBox i j
+  pub names : named k (made (rootOf (k .numbers)) (filmAt k i .first .0 + j)) ≡ TheBox i j
   pub film : LiveFilm k i
 
 -- whatever box or film a UID names, and every box and film there is, is live with all above it
 pub record Parented (k : Core) : Type 0 where
-  pub box-named : (uid : List ℕ) (i j : ℕ) → named k uid ≡ theBox i j → LiveBox k i j
-  pub film-named : (uid : List ℕ) (i : ℕ) → named k uid ≡ theFilm i → LiveFilm k i
+  pub box-named : (uid : List ℕ) (i j : ℕ) → named k uid ≡ TheBox i j → LiveBox k i j
+  pub film-named : (uid : List ℕ) (i : ℕ) → named k uid ≡ TheFilm i → LiveFilm k i
   pub every-box : (i j : ℕ) → i < length (filmsOf (k .shelf)) → j < boxCount (filmAt k i .layout) → LiveBox k i j
   pub every-film : (i : ℕ) → i < length (filmsOf (k .shelf)) → LiveFilm k i
 
 -- Where an instance and its UID stand among those that are live.
 
 abbrev instanceAt : ℕ → ℕ → Instance
-instanceAt zero place = theSession
-instanceAt (suc i) zero = theFilm i
-instanceAt (suc i) (suc j) = theBox i j
+instanceAt zero place = TheSession
+instanceAt (suc i) zero = TheFilm i
+instanceAt (suc i) (suc j) = TheBox i j
 
 record Stands (k : Core) (uid : List ℕ) (x : Instance) : Type 0 where
   list : ℕ
@@ -66,15 +68,15 @@ record Stands (k : Core) (uid : List ℕ) (x : Instance) : Type 0 where
   is : instanceAt list place ≡ x
 
 module _ (k : Core) (uid : List ℕ) where
-  session-stands : isLive (k .session) ≡ true → uid ≡ uidOf (k .numbers) (k .session .name) → Stands k uid theSession
+  session-stands : isLive (k .session) ≡ true → uid ≡ uidOf (k .numbers) (k .session .name) → Stands k uid TheSession
   session-stands live e = record { list = 0; place = 0; inside = rw live (omega arith); holds = rw live (sym e); is = refl }
 
-  film-stands : (i : ℕ) → i < length (filmsOf (k .shelf)) → uid ≡ uidOf (k .numbers) (filmAt k i .name) → Stands k uid (theFilm i)
+  film-stands : (i : ℕ) → i < length (filmsOf (k .shelf)) → uid ≡ uidOf (k .numbers) (filmAt k i .name) → Stands k uid (TheFilm i)
   film-stands i h e =
       let l = map-at (filmUids (k .numbers)) (filmsOf (k .shelf)) i noFilm [] h in
       record { list = suc i; place = 0; inside = rw l (omega arith); holds = rw l (sym e); is = refl }
 
-  box-stands : (i j : ℕ) → i < length (filmsOf (k .shelf)) → j < boxCount (filmAt k i .layout) → uid ≡ getD (boxUids (k .numbers) (filmAt k i)) j [] → Stands k uid (theBox i j)
+  box-stands : (i j : ℕ) → i < length (filmsOf (k .shelf)) → j < boxCount (filmAt k i .layout) → uid ≡ getD (boxUids (k .numbers) (filmAt k i)) j [] → Stands k uid (TheBox i j)
   box-stands i j h g e =
       let l = map-at (filmUids (k .numbers)) (filmsOf (k .shelf)) i noFilm [] h in
       record { list = suc i; place = suc j; inside = rw l (omega (arith, box-uids-length (k .numbers) (filmAt k i))); holds = rw l (sym e); is = refl }
@@ -87,13 +89,13 @@ module _ (k : Core) (uid : List ℕ) where
       let n = k .numbers in
       let i = placeOf (boxNamed n uid) films in
       let P : Instance → Type 0 = λ x. isNobody x ≡ false → Stands k uid x in
-      pick-cases P (both (isLive (k .session)) (same uid (uidOf n (k .session .name)))) theSession _
+      pick-cases P (both (isLive (k .session)) (same uid (uidOf n (k .session .name)))) TheSession _
       (λ e s. let b = both-true (isLive (k .session)) (same uid (uidOf n (k .session .name))) e in session-stands (b .0) (same-equal uid _ (b .1)))
       (λ _.
-      pick-cases P (any (filmNamed n uid) films) (theFilm (placeOf (filmNamed n uid) films)) _
+      pick-cases P (any (filmNamed n uid) films) (TheFilm (placeOf (filmNamed n uid) films)) _
       (λ e s. film-stands (placeOf (filmNamed n uid) films) (place-below (filmNamed n uid) films e) (same-equal uid _ (place-passes (filmNamed n uid) films noFilm e)))
       (λ _.
-      pick-cases P (any (boxNamed n uid) films) (boxOf n uid films i) nobody
+      pick-cases P (any (boxNamed n uid) films) (boxOf n uid films i) Nobody
       (λ e s.
       let b = place-passes (boxNamed n uid) films noFilm e in
       let uids = boxUids n (filmAt k i) in
@@ -120,7 +122,7 @@ module _ (k : Core) (sound : coreSound k ≡ true) where
       let uid = uidOf (k .numbers) (k .session .name) in
       record {
         live = live;
-        names = bearer-named uid theSession (session-stands k uid live refl) (λ e. clash (both-second (isLive (k .session)) (same uid uid) (nobody-named k uid e .0) live) (same-self uid));
+        names = bearer-named uid TheSession (session-stands k uid live refl) (λ e. clash (both-second (isLive (k .session)) (same uid uid) (nobody-named k uid e .0) live) (same-self uid));
       }
 
   -- there are films only under a live session
@@ -139,7 +141,7 @@ module _ (k : Core) (sound : coreSound k ≡ true) where
       let uid = uidOf (k .numbers) (filmAt k i .name) in
       record {
         there = h;
-        names = bearer-named uid (theFilm i) (film-stands k uid i h refl) (λ e. clash (none-at (filmNamed (k .numbers) uid) (filmsOf (k .shelf)) i noFilm (nobody-named k uid e .1) h) (same-self uid));
+        names = bearer-named uid (TheFilm i) (film-stands k uid i h refl) (λ e. clash (none-at (filmNamed (k .numbers) uid) (filmsOf (k .shelf)) i noFilm (nobody-named k uid e .1) h) (same-self uid));
         session = session-lives (filmed-live i h);
       }
 
@@ -152,7 +154,7 @@ module _ (k : Core) (sound : coreSound k ≡ true) where
         there = g;
         names =
             ap (named k) (sym (box-uid-at (k .numbers) (filmAt k i) j g))
-            ∙ bearer-named uid (theBox i j) (box-stands k uid i j h g refl)
+            ∙ bearer-named uid (TheBox i j) (box-stands k uid i j h g refl)
             (λ e. clash (none-at (same uid) uids j [] (none-at (boxNamed (k .numbers) uid) (filmsOf (k .shelf)) i noFilm (nobody-named k uid e .2) h) l) (same-self uid));
         film = film-lives i h;
       }
@@ -167,5 +169,5 @@ parented k sound = record {
 }
 
 -- And so it has after any run of calls.
-pub parented-always : (s : Records Core) (calls : List (Call Handed)) → coreSound (s .core) ≡ true → Parented (after printing s calls .core)
+pub parented-always : (s : Records Core) (calls : List (Call handed)) → coreSound (s .core) ≡ true → Parented (after printing s calls .core)
 parented-always s calls e = parented (after printing s calls .core) (run-keeps s calls e)

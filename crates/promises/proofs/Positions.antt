@@ -11,6 +11,7 @@ use borrow.Author.Tests.{ltb-true, ltb-false, lt-ltb, le-ltb}
 use Rattle.choice.specs.Pick.{pick}
 use Rattle.rules.specs.declared.Layout.{Layout}
 use Rattle.rules.specs.Lists.{sum}
+use Rattle.rules.specs.Values.{kindCol}
 use Rattle.rules.specs.Records.{boxCount}
 use Rattle.rules.specs.Positions.{Spot, Within, spotOf, before, spotAt, rowOf, columnOf}
 
@@ -96,10 +97,10 @@ module _ (l : Layout) (p q : ℕ) (low : (1 ≤ p) × (1 ≤ q)) (high : (p ≤ 
       let c : before counts (spotAt l p) ≡ before counts (spotAt l q) = rw (e, f) refl in
       omega (arith, low .0, low .1, a, b, c)
 
-  one-by : (rows : Bool) → pick rows (spotAt l p .line) (spotAt l p .place) ≡ pick rows (spotAt l q .line) (spotAt l q .place)
-      → pick rows (spotAt l p .place) (spotAt l p .line) ≡ pick rows (spotAt l q .place) (spotAt l q .line) → p ≡ q
-  one-by true e f = one-spot e f
-  one-by false e f = one-spot f e
+  one-by : (columns : Bool) → pick columns (spotAt l p .place) (spotAt l p .line) ≡ pick columns (spotAt l q .place) (spotAt l q .line)
+      → pick columns (spotAt l p .line) (spotAt l p .place) ≡ pick columns (spotAt l q .line) (spotAt l q .place) → p ≡ q
+  one-by true e f = one-spot f e
+  one-by false e f = one-spot e f
 
   pub one-place : rowOf l p ≡ rowOf l q → columnOf l p ≡ columnOf l q → p ≡ q
-  one-place e f = one-by (eqb (l .turned) 0) e f
+  one-place e f = one-by (eqb (l .kind) kindCol) e f

@@ -16,6 +16,8 @@ use Rattle.octets.proofs.Laid.{Stands}
 use Rattle.octets.proofs.Numbers.{octets-length, number-back}
 use Rattle.uids.specs.Uids.{isUid, unpadded}
 use Rattle.uids.proofs.Padding.{unpadded-padded, unpadded-uid}
+use Rattle.headers.specs.declared.Syntax.{Syntax}
+use Rattle.headers.specs.declared.Syntax.the-variants.{Implicit}
 use Rattle.headers.specs.declared.Inside.{Inside}
 use Rattle.tags.specs.Table.{UI, UL, US}
 use Rattle.elements.specs.declared.Read.the-variants.{Past}
@@ -26,7 +28,8 @@ use Rattle.writing.specs.Bytes.{padded, written}
 use Rattle.writing.specs.Fit.{Fit}
 use Rattle.writing.proofs.ListBack.{data-set-back}
 use Rattle.rules.specs.Commands.{inCommand, placed, bytesOf, uidAt, hasNumber, numberIn, lengthTold, hasData}
-use Rattle.rules.specs.Responses.{Says, Note, uidElement, actionElement, dataSetType, responseElements, responseTree, reply}
+use Rattle.rules.specs.declared.Note.{Note}
+use Rattle.rules.specs.Responses.{Says, uidElement, actionElement, dataSetType, responseElements, responseTree, reply}
 use Rattle.promises.proofs.Held.{Has, here, later, Lacks, never, other, Holds, whole-holds, whole-lacks}
 use Rattle.promises.proofs.ReplySizes.{UidOrNone, SaysUids, from1000, from0900, from0800, from0120, from0100, elements-short, tree-length, response-fit}
 
@@ -70,8 +73,8 @@ pub unpadded-ui : (uid : List ℕ) → isUid uid ≡ true → unpadded (padded U
 unfolding padded
 unpadded-ui uid u = unpadded-by (length uid % 2) uid (omega arith) u
 
-pub held-stands : {s : List ℕ} {explicit : Bool} {room : ℕ} {inside : Inside} {tag : ℕ} {bytes : List ℕ} → (h : Holds s explicit room inside tag bytes) → Stands s (h .place .from) bytes
-held-stands {s} {explicit} {room} {inside} {tag} {bytes} h = subst (λ (n : ℕ). part s (h .place .from) n ≡ bytes) (h .sized) (h .means)
+pub held-stands : {s : List ℕ} {syntax : Syntax} {room : ℕ} {inside : Inside} {tag : ℕ} {bytes : List ℕ} → (h : Holds s syntax room inside tag bytes) → Stands s (h .place .from) bytes
+held-stands {s} {syntax} {room} {inside} {tag} {bytes} h = subst (λ (n : ℕ). part s (h .place .from) n ≡ bytes) (h .sized) (h .means)
 
 -- What a command set says under a tag.
 
@@ -92,7 +95,7 @@ abbrev pub UidMeant : List ℕ → ℕ → Option (List ℕ) → Type 0
 UidMeant c tag none = inCommand c tag ≡ Missing
 UidMeant c tag (some uid) = UidIs c tag uid
 
-number-is : (c : List ℕ) (tag n : ℕ) → Holds c false 4 (whole c) tag (padded US (octets 2 n)) → NumberIs c tag (n % 65536)
+number-is : (c : List ℕ) (tag n : ℕ) → Holds c Implicit 4 (whole c) tag (padded US (octets 2 n)) → NumberIs c tag (n % 65536)
 number-is c tag n h =
     let e : padded US (octets 2 n) ≡ octets 2 (n % 65536) = padded-number US 2 n refl ∙ octets-mod n in
     let l : length (padded US (octets 2 n)) ≡ 2 = ap length e ∙ octets-length 2 (n % 65536) in
@@ -101,7 +104,7 @@ number-is c tag n h =
       is = rw (h .found) (number-back 2 (n % 65536) c (h .place .from) (omega arith) (subst (λ (v : List ℕ). Stands c (h .place .from) v) e (held-stands h)));
     }
 
-uid-is : (c : List ℕ) (tag : ℕ) (uid : List ℕ) → isUid uid ≡ true → Holds c false 4 (whole c) tag (padded UI uid) → UidIs c tag uid
+uid-is : (c : List ℕ) (tag : ℕ) (uid : List ℕ) → isUid uid ≡ true → Holds c Implicit 4 (whole c) tag (padded UI uid) → UidIs c tag uid
 unfolding bytesOf uidAt
 uid-is c tag uid u h = record {
   bytes = rw (h .found) (h .means);
@@ -168,13 +171,13 @@ module _ (says : Says) (status : ℕ) (d : List ℕ) where
   in-response : (tag : ℕ) (bytes : Option (List ℕ)) → eqb 0x0000_0000 tag ≡ false → eqb 0x0000_0002 tag ≡ false → There (from0100 says status d) tag bytes → There (responseTree says status d) tag bytes
   unfolding responseTree responseElements
   in-response tag bytes e f h =
-      behind-value tag 0x0000_0000 UL (octets 4 (length (written false (responseElements says status d)))) (responseElements says status d) bytes e
+      behind-value tag 0x0000_0000 UL (octets 4 (length (written Implicit (responseElements says status d)))) (responseElements says status d) bytes e
       (behind-uid tag 0x0000_0002 (says .class) (from0100 says status d) bytes f h)
 
   class-there : There (responseTree says status d) 0x0000_0002 (uidBytes (says .class))
   unfolding responseTree responseElements
   class-there =
-      behind-value 0x0000_0002 0x0000_0000 UL (octets 4 (length (written false (responseElements says status d)))) (responseElements says status d) (uidBytes (says .class)) refl
+      behind-value 0x0000_0002 0x0000_0000 UL (octets 4 (length (written Implicit (responseElements says status d)))) (responseElements says status d) (uidBytes (says .class)) refl
       (uid-there 0x0000_0002 (says .class) (from0100 says status d)
       (behind-numbers 0x0000_0002 none refl refl refl refl
       (behind-uid 0x0000_0002 0x0000_1000 (says .instance) (actionElement (says .action)) none refl (no-action 0x0000_0002 (says .action) refl))))
@@ -209,23 +212,23 @@ module _ (says : Says) (status : ℕ) (d : List ℕ) where
       (behind-numbers tag none (e .2) (e .3) (e .4) (e .5)
       (behind-uid tag 0x0000_1000 (says .instance) (actionElement (says .action)) none (e .6) (no-action tag (says .action) (e .7))))
 
-  group-there : Has 0x0000_0000 (padded UL (octets 4 (length (written false (responseElements says status d))))) (responseTree says status d)
+  group-there : Has 0x0000_0000 (padded UL (octets 4 (length (written Implicit (responseElements says status d))))) (responseTree says status d)
   unfolding responseTree
   group-there = here refl
 
 -- From the elements to the bytes.
 
-module _ (elements : Elements) (f : Fit false 4 0 elements) where
-  uid-meant : (tag : ℕ) (uid : Option (List ℕ)) → UidOrNone uid → There elements tag (uidBytes uid) → UidMeant (written false elements) tag uid
-  uid-meant tag none u h = whole-lacks false elements f tag h
-  uid-meant tag (some uid) u h = uid-is (written false elements) tag uid u (whole-holds false elements f tag (padded UI uid) h)
+module _ (elements : Elements) (f : Fit Implicit 4 0 elements) where
+  uid-meant : (tag : ℕ) (uid : Option (List ℕ)) → UidOrNone uid → There elements tag (uidBytes uid) → UidMeant (written Implicit elements) tag uid
+  uid-meant tag none u h = whole-lacks Implicit elements f tag h
+  uid-meant tag (some uid) u h = uid-is (written Implicit elements) tag uid u (whole-holds Implicit elements f tag (padded UI uid) h)
 
-  number-meant : (tag : ℕ) (n : Option ℕ) → There elements tag (numberBytes n) → NumberMeant (written false elements) tag n
-  number-meant tag none h = whole-lacks false elements f tag h
-  number-meant tag (some n) h = number-is (written false elements) tag n (whole-holds false elements f tag (padded US (octets 2 n)) h)
+  number-meant : (tag : ℕ) (n : Option ℕ) → There elements tag (numberBytes n) → NumberMeant (written Implicit elements) tag n
+  number-meant tag none h = whole-lacks Implicit elements f tag h
+  number-meant tag (some n) h = number-is (written Implicit elements) tag n (whole-holds Implicit elements f tag (padded US (octets 2 n)) h)
 
 -- the group length is equal to the bytes after it
-length-is : (c : List ℕ) (n : ℕ) → n < 4294967296 → length c ≡ 12 + n → Holds c false 4 (whole c) 0x0000_0000 (padded UL (octets 4 n)) → lengthTold c ≡ true
+length-is : (c : List ℕ) (n : ℕ) → n < 4294967296 → length c ≡ 12 + n → Holds c Implicit 4 (whole c) 0x0000_0000 (padded UL (octets 4 n)) → lengthTold c ≡ true
 unfolding lengthTold
 length-is c n b l h =
     let e : padded UL (octets 4 n) ≡ octets 4 n = padded-number UL 4 n refl in
@@ -255,7 +258,7 @@ type-told c d k = rw (k .is) (type-by (eqb (length d) 0))
 -- What a response says, read back from its bytes.
 pub record ResponseMeans (c : List ℕ) (says : Says) (status : ℕ) (d : List ℕ) : Type 0 where
   -- the reader takes it whole
-  pub read : dataSet c false ≡ Past (length c)
+  pub read : dataSet c Implicit ≡ Past (length c)
   -- (0000,0000) is there, 4 bytes, and equal to the bytes after it
   pub group : lengthTold c ≡ true
   pub class : UidMeant c 0x0000_0002 (says .class)
@@ -271,23 +274,23 @@ pub record ResponseMeans (c : List ℕ) (says : Says) (status : ℕ) (d : List �
   pub nothing-else : (tag : ℕ) → Foreign tag → inCommand c tag ≡ Missing
 
 module _ (says : Says) (status : ℕ) (d : List ℕ) (b : SaysUids says) where
-  tree-means : ResponseMeans (written false (responseTree says status d)) says status d
+  tree-means : ResponseMeans (written Implicit (responseTree says status d)) says status d
   tree-means =
       let t : Elements = responseTree says status d in
-      let f : Fit false 4 0 t = response-fit false 4 says status d b in
-      let k = number-small (written false t) 0x0000_0800 (dataSetType d) (type-small (eqb (length d) 0)) (number-meant t f 0x0000_0800 (some (dataSetType d)) (data-there says status d)) in
+      let f : Fit Implicit 4 0 t = response-fit Implicit 4 says status d b in
+      let k = number-small (written Implicit t) 0x0000_0800 (dataSetType d) (type-small (eqb (length d) 0)) (number-meant t f 0x0000_0800 (some (dataSetType d)) (data-there says status d)) in
       record {
-        read = data-set-back false t f;
-        group = length-is (written false t) (length (written false (responseElements says status d))) (omega (arith, elements-short says status d b)) (tree-length says status d b) (whole-holds false t f 0x0000_0000 _ (group-there says status d));
+        read = data-set-back Implicit t f;
+        group = length-is (written Implicit t) (length (written Implicit (responseElements says status d))) (omega (arith, elements-short says status d b)) (tree-length says status d b) (whole-holds Implicit t f 0x0000_0000 _ (group-there says status d));
         class = uid-meant t f 0x0000_0002 (says .class) (b .class) (class-there says status d);
         field = number-meant t f 0x0000_0100 (some (says .field + 0x8000)) (field-there says status d);
         message = number-meant t f 0x0000_0120 (some (says .message)) (message-there says status d);
         data-type = k;
-        data-comes = type-told (written false t) d k;
+        data-comes = type-told (written Implicit t) d k;
         status-is = number-meant t f 0x0000_0900 (some status) (status-there says status d);
         instance = uid-meant t f 0x0000_1000 (says .instance) (b .instance) (instance-there says status d);
         action = number-meant t f 0x0000_1008 (says .action) (kind-there says status d);
-        nothing-else = λ tag e. whole-lacks false t f tag (foreign-lacks says status d tag e);
+        nothing-else = λ tag e. whole-lacks Implicit t f tag (foreign-lacks says status d tag e);
       }
 
   -- Whatever a response says, where its class and its instance are UIDs or left out, is read back from the command set that is handed out.

@@ -2,7 +2,7 @@
 -- Assumes nothing.
 use Prim.Native.Nat.{ℕ, _+_, _*_, _≤_}
 use mathlib.Core.Path.{_≡_, refl}
-use mathlib.Core.Bool.{Bool, true, false}
+use mathlib.Core.Bool.{true}
 use mathlib.Core.List.{List, [], _∷_}
 use mathlib.Core.Option.{Option, none, some}
 use native.Mathlib.Omega.{arith}
@@ -11,15 +11,18 @@ use Rattle.octets.specs.Octets.{octets}
 use Rattle.octets.proofs.Numbers.{octets-length}
 use Rattle.uids.specs.Uids.{isUid}
 use Rattle.uids.proofs.Length.{uid-short}
-use Rattle.tags.specs.Table.{SQ, UI, UL, US, formOf, namedVr, differs}
+use Rattle.tags.specs.Table.{SQ, UI, UL, US}
+use Rattle.headers.specs.declared.Syntax.{Syntax}
+use Rattle.headers.specs.declared.Syntax.the-variants.{Implicit}
 use Rattle.writing.specs.Tree.{Elements, noElements, value, sequence}
 use Rattle.writing.specs.Bytes.{padded, headerSize, written, writtenItems}
 use Rattle.writing.specs.Fit.{allowed, HeaderFits, Fit, FitItems}
 use Rattle.writing.proofs.Sizes.{size-between, padded-length, value-length, sequence-length, items-length}
-use Rattle.writing.proofs.Allowed.{below-limit}
+use Rattle.writing.proofs.Allowed.{theForms, below-limit}
 use Rattle.rules.specs.Bounds.{commandRoom, dataRoom, mostBoxes}
 use Rattle.rules.specs.Text.{chars, boxClass}
-use Rattle.rules.specs.Responses.{Says, Note, uidElement, numberElement, actionElement, dataSetType, responseElements, responseTree, reply, boxItems, filmTree}
+use Rattle.rules.specs.declared.Note.{Note}
+use Rattle.rules.specs.Responses.{Says, uidElement, numberElement, actionElement, dataSetType, responseElements, responseTree, reply, boxItems, filmTree}
 use Rattle.promises.proofs.ListLaws.{Each}
 
 -- what may be left out, and is a UID where it is not
@@ -53,26 +56,26 @@ from0100 says status d = numberElement 0x0000_0100 (says .field + 0x8000) (from0
 
 -- Lengths.
 
-size-implicit : (vr : ℕ) → headerSize false vr ≡ 8
+size-implicit : (vr : ℕ) → headerSize Implicit vr ≡ 8
 unfolding headerSize
 size-implicit vr = refl
 
-number-bytes : (tag n : ℕ) (more : Elements) → length (written false (numberElement tag n more)) ≡ 10 + length (written false more)
+number-bytes : (tag n : ℕ) (more : Elements) → length (written Implicit (numberElement tag n more)) ≡ 10 + length (written Implicit more)
 number-bytes tag n more =
-    omega (arith, value-length false tag more US (octets 2 n), octets-length 2 n, size-implicit US)
+    omega (arith, value-length Implicit tag more US (octets 2 n), octets-length 2 n, size-implicit US)
 
-uid-bytes : (tag : ℕ) (uid : Option (List ℕ)) (more : Elements) → UidOrNone uid → length (written false (uidElement tag uid more)) ≤ 72 + length (written false more)
+uid-bytes : (tag : ℕ) (uid : Option (List ℕ)) (more : Elements) → UidOrNone uid → length (written Implicit (uidElement tag uid more)) ≤ 72 + length (written Implicit more)
 uid-bytes tag none more h = omega arith
-uid-bytes tag (some uid) more h = omega (arith, uid-short uid h, value-length false tag more UI uid, size-implicit UI)
+uid-bytes tag (some uid) more h = omega (arith, uid-short uid h, value-length Implicit tag more UI uid, size-implicit UI)
 
-action-bytes : (kind : Option ℕ) → length (written false (actionElement kind)) ≤ 10
+action-bytes : (kind : Option ℕ) → length (written Implicit (actionElement kind)) ≤ 10
 unfolding written
 action-bytes none = omega arith
 action-bytes (some n) = omega (arith, number-bytes 0x0000_1008 n noElements)
 
 module _ (says : Says) (status : ℕ) (d : List ℕ) (h : SaysUids says) where
   -- what follows the group length has at most 194 bytes
-  pub elements-short : length (written false (responseElements says status d)) ≤ 194
+  pub elements-short : length (written Implicit (responseElements says status d)) ≤ 194
   unfolding responseElements
   elements-short =
       omega (
@@ -87,11 +90,11 @@ module _ (says : Says) (status : ℕ) (d : List ℕ) (h : SaysUids says) where
       )
 
   -- the group length is that of what follows
-  pub tree-length : length (written false (responseTree says status d)) ≡ 12 + length (written false (responseElements says status d))
+  pub tree-length : length (written Implicit (responseTree says status d)) ≡ 12 + length (written Implicit (responseElements says status d))
   unfolding responseTree
   tree-length =
-      let n = length (written false (responseElements says status d)) in
-      omega (arith, value-length false 0x0000_0000 (responseElements says status d) UL (octets 4 n), octets-length 4 n, size-implicit UL)
+      let n = length (written Implicit (responseElements says status d)) in
+      omega (arith, value-length Implicit 0x0000_0000 (responseElements says status d) UL (octets 4 n), octets-length 4 n, size-implicit UL)
 
   -- a response fits its buffer
   pub reply-fits : (note : Note) → length (reply says status d note .command) ≤ commandRoom
@@ -101,43 +104,43 @@ module _ (says : Says) (status : ℕ) (d : List ℕ) (h : SaysUids says) where
 -- Fitness.
 
 -- what fits where tags start higher fits where they start lower
-fit-lower : (explicit : Bool) (room floor higher : ℕ) (elements : Elements) → floor ≤ higher → Fit explicit room higher elements → Fit explicit room floor elements
-fit-lower explicit room floor higher noElements h f = tt
-fit-lower explicit room floor higher (value tag vr bytes more) h f =
+fit-lower : (syntax : Syntax) (room floor higher : ℕ) (elements : Elements) → floor ≤ higher → Fit syntax room higher elements → Fit syntax room floor elements
+fit-lower syntax room floor higher noElements h f = tt
+fit-lower syntax room floor higher (value tag vr bytes more) h f =
     let k : higher ≤ tag = f .0 .0 in
     ((omega arith, f .0 .1, f .0 .2), f .1, f .2)
-fit-lower explicit room floor higher (sequence tag items more) h f =
+fit-lower syntax room floor higher (sequence tag items more) h f =
     let k : higher ≤ tag = f .0 .0 in
     ((omega arith, f .0 .1, f .0 .2), f .1, f .2, f .3, f .4)
 
-header-fits : (explicit : Bool) (floor tag vr : ℕ) (bytes : List ℕ) → floor ≤ tag → allowed tag vr ≡ true → length bytes ≤ 64 → HeaderFits explicit floor tag vr (length (padded vr bytes))
-header-fits explicit floor tag vr bytes h a k = (h, a, below-limit explicit vr (length (padded vr bytes)) (omega (arith, padded-length vr bytes)))
+header-fits : (syntax : Syntax) (floor tag vr : ℕ) (bytes : List ℕ) → floor ≤ tag → allowed tag vr ≡ true → length bytes ≤ 64 → HeaderFits syntax floor tag vr (length (padded vr bytes))
+header-fits syntax floor tag vr bytes h a k = (h, a, below-limit syntax vr (length (padded vr bytes)) (omega (arith, padded-length vr bytes)))
 
-fit-number : (explicit : Bool) (room floor tag n : ℕ) (more : Elements) → floor ≤ tag → allowed tag US ≡ true → Fit explicit room (tag + 1) more → Fit explicit room floor (numberElement tag n more)
-fit-number explicit room floor tag n more h a f = (header-fits explicit floor tag US (octets 2 n) h a (omega (arith, octets-length 2 n)), refl, f)
+fit-number : (syntax : Syntax) (room floor tag n : ℕ) (more : Elements) → floor ≤ tag → allowed tag US ≡ true → Fit syntax room (tag + 1) more → Fit syntax room floor (numberElement tag n more)
+fit-number syntax room floor tag n more h a f = (header-fits syntax floor tag US (octets 2 n) h a (omega (arith, octets-length 2 n)), refl, f)
 
-fit-uid : (explicit : Bool) (room floor tag : ℕ) (uid : Option (List ℕ)) (more : Elements) → floor ≤ tag → allowed tag UI ≡ true → UidOrNone uid → Fit explicit room (tag + 1) more → Fit explicit room floor (uidElement tag uid more)
-fit-uid explicit room floor tag none more h a s f = fit-lower explicit room floor (tag + 1) more (omega arith) f
-fit-uid explicit room floor tag (some uid) more h a s f = (header-fits explicit floor tag UI uid h a (uid-short uid s), refl, f)
+fit-uid : (syntax : Syntax) (room floor tag : ℕ) (uid : Option (List ℕ)) (more : Elements) → floor ≤ tag → allowed tag UI ≡ true → UidOrNone uid → Fit syntax room (tag + 1) more → Fit syntax room floor (uidElement tag uid more)
+fit-uid syntax room floor tag none more h a s f = fit-lower syntax room floor (tag + 1) more (omega arith) f
+fit-uid syntax room floor tag (some uid) more h a s f = (header-fits syntax floor tag UI uid h a (uid-short uid s), refl, f)
 
-fit-action : (explicit : Bool) (room floor : ℕ) (kind : Option ℕ) → floor ≤ 0x0000_1008 → Fit explicit room floor (actionElement kind)
-unfolding allowed formOf namedVr differs
-fit-action explicit room floor none h = tt
-fit-action explicit room floor (some n) h = fit-number explicit room floor 0x0000_1008 n noElements h refl tt
+fit-action : (syntax : Syntax) (room floor : ℕ) (kind : Option ℕ) → floor ≤ 0x0000_1008 → Fit syntax room floor (actionElement kind)
+unfolding theForms
+fit-action syntax room floor none h = tt
+fit-action syntax room floor (some n) h = fit-number syntax room floor 0x0000_1008 n noElements h refl tt
 
 -- a response fits to be written
-pub response-fit : (explicit : Bool) (room : ℕ) (says : Says) (status : ℕ) (d : List ℕ) → SaysUids says → Fit explicit room 0 (responseTree says status d)
-unfolding responseTree responseElements allowed formOf namedVr differs
-response-fit explicit room says status d h = (
-  header-fits explicit 0 0x0000_0000 UL (octets 4 (length (written false (responseElements says status d)))) (omega arith) refl (omega (arith, octets-length 4 (length (written false (responseElements says status d))))),
+pub response-fit : (syntax : Syntax) (room : ℕ) (says : Says) (status : ℕ) (d : List ℕ) → SaysUids says → Fit syntax room 0 (responseTree says status d)
+unfolding responseTree responseElements theForms
+response-fit syntax room says status d h = (
+  header-fits syntax 0 0x0000_0000 UL (octets 4 (length (written Implicit (responseElements says status d)))) (omega arith) refl (omega (arith, octets-length 4 (length (written Implicit (responseElements says status d))))),
   refl,
-  fit-uid explicit room 1 0x0000_0002 (says .class) (from0100 says status d) (omega arith) refl (h .class)
-      (fit-number explicit room 0x0000_0003 0x0000_0100 (says .field + 0x8000) (from0120 says status d) (omega arith) refl
-      (fit-number explicit room 0x0000_0101 0x0000_0120 (says .message) (from0800 says status d) (omega arith) refl
-      (fit-number explicit room 0x0000_0121 0x0000_0800 (dataSetType d) (from0900 says status) (omega arith) refl
-      (fit-number explicit room 0x0000_0801 0x0000_0900 status (from1000 says) (omega arith) refl
-      (fit-uid explicit room 0x0000_0901 0x0000_1000 (says .instance) (actionElement (says .action)) (omega arith) refl (h .instance)
-      (fit-action explicit room 0x0000_1001 (says .action) (omega arith))))))),
+  fit-uid syntax room 1 0x0000_0002 (says .class) (from0100 says status d) (omega arith) refl (h .class)
+      (fit-number syntax room 0x0000_0003 0x0000_0100 (says .field + 0x8000) (from0120 says status d) (omega arith) refl
+      (fit-number syntax room 0x0000_0101 0x0000_0120 (says .message) (from0800 says status d) (omega arith) refl
+      (fit-number syntax room 0x0000_0121 0x0000_0800 (dataSetType d) (from0900 says status) (omega arith) refl
+      (fit-number syntax room 0x0000_0801 0x0000_0900 status (from1000 says) (omega arith) refl
+      (fit-uid syntax room 0x0000_0901 0x0000_1000 (says .instance) (actionElement (says .action)) (omega arith) refl (h .instance)
+      (fit-action syntax room 0x0000_1001 (says .action) (omega arith))))))),
 )
 
 -- The created film's data set.
@@ -150,36 +153,36 @@ class-length : length boxClass ≡ 21
 unfolding chars
 class-length = refl
 
-module _ (explicit : Bool) where
-  box-length : (uid : List ℕ) → length uid ≤ 64 → length (written explicit (boxTree uid)) ≤ 110
+module _ (syntax : Syntax) where
+  box-length : (uid : List ℕ) → length uid ≤ 64 → length (written syntax (boxTree uid)) ≤ 110
   unfolding written
   box-length uid k =
-      omega (arith, value-length explicit 0x0008_1150 (value 0x0008_1155 UI uid noElements) UI boxClass, value-length explicit 0x0008_1155 noElements UI uid, size-between explicit UI .1, class-length)
+      omega (arith, value-length syntax 0x0008_1150 (value 0x0008_1155 UI uid noElements) UI boxClass, value-length syntax 0x0008_1155 noElements UI uid, size-between syntax UI .1, class-length)
 
-  boxes-length : (uids : List (List ℕ)) → AllUids uids → length (writtenItems explicit (boxItems uids)) ≤ 118 * length uids
+  boxes-length : (uids : List (List ℕ)) → AllUids uids → length (writtenItems syntax (boxItems uids)) ≤ 118 * length uids
   unfolding written boxItems
   boxes-length [] k = omega arith
-  boxes-length (uid ∷ uids) k = omega (arith, items-length explicit (boxTree uid) (boxItems uids), box-length uid (uid-short uid (k .0)), boxes-length uids (k .1))
+  boxes-length (uid ∷ uids) k = omega (arith, items-length syntax (boxTree uid) (boxItems uids), box-length uid (uid-short uid (k .0)), boxes-length uids (k .1))
 
-  box-fit : (room : ℕ) (uid : List ℕ) → length uid ≤ 64 → Fit explicit room 0 (boxTree uid)
-  unfolding allowed formOf namedVr differs
+  box-fit : (room : ℕ) (uid : List ℕ) → length uid ≤ 64 → Fit syntax room 0 (boxTree uid)
+  unfolding theForms
   box-fit room uid k = (
-    header-fits explicit 0 0x0008_1150 UI boxClass (omega arith) refl (omega (arith, class-length)),
+    header-fits syntax 0 0x0008_1150 UI boxClass (omega arith) refl (omega (arith, class-length)),
     refl,
-    (header-fits explicit 0x0008_1151 0x0008_1155 UI uid (omega arith) refl k, refl, tt),
+    (header-fits syntax 0x0008_1151 0x0008_1155 UI uid (omega arith) refl k, refl, tt),
   )
 
-  boxes-fit : (room : ℕ) (uids : List (List ℕ)) → AllUids uids → FitItems explicit room (boxItems uids)
+  boxes-fit : (room : ℕ) (uids : List (List ℕ)) → AllUids uids → FitItems syntax room (boxItems uids)
   unfolding boxItems
   boxes-fit room [] k = tt
   boxes-fit room (uid ∷ uids) k = (omega (arith, box-length uid (uid-short uid (k .0))), box-fit room uid (uid-short uid (k .0)), boxes-fit room uids (k .1))
 
   module _ (uids : List (List ℕ)) (k : AllUids uids) (n : length uids ≤ mostBoxes) where
     -- it fits to be written, in both syntaxes
-    pub film-fit : Fit explicit 4 0 (filmTree uids)
-    unfolding filmTree allowed formOf namedVr differs
+    pub film-fit : Fit syntax 4 0 (filmTree uids)
+    unfolding filmTree theForms
     film-fit = (
-      (omega arith, refl, below-limit explicit SQ (length (writtenItems explicit (boxItems uids))) (omega (arith, boxes-length uids k))),
+      (omega arith, refl, below-limit syntax SQ (length (writtenItems syntax (boxItems uids))) (omega (arith, boxes-length uids k))),
       refl,
       omega arith,
       boxes-fit 3 uids k,
@@ -187,6 +190,6 @@ module _ (explicit : Bool) where
     )
 
     -- it fits its buffer
-    pub film-fits : length (written explicit (filmTree uids)) ≤ dataRoom
+    pub film-fits : length (written syntax (filmTree uids)) ≤ dataRoom
     unfolding written filmTree
-    film-fits = omega (arith, sequence-length explicit 0x2010_0510 noElements (boxItems uids), boxes-length uids k, size-between explicit SQ .1)
+    film-fits = omega (arith, sequence-length syntax 0x2010_0510 noElements (boxItems uids), boxes-length uids k, size-between syntax SQ .1)

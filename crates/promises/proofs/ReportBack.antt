@@ -12,19 +12,20 @@ use Rattle.octets.proofs.Numbers.{number-back}
 use Rattle.strike.specs.Service.{DataSet, Result, fails, does}
 use Rattle.rules.specs.Bounds.{commandRoom, dataRoom, mostRoom, reportRoom}
 use Rattle.rules.specs.declared.Core.{Core}
-use Rattle.rules.specs.declared.Request.{Request}
 use Rattle.rules.specs.declared.Command.{Command}
 use Rattle.rules.specs.declared.Command.the-variants.{Unreadable, Unknown, Known}
 use Rattle.rules.specs.Commands.{numberIn, understood}
-use Rattle.rules.specs.Responses.{Says, Note, noNote, filmsQueued, pictureAt, Reply}
+use Rattle.rules.specs.declared.Note.{Note}
+use Rattle.rules.specs.declared.Note.the-variants.{NoNote, FilmsQueued, PictureAt}
+use Rattle.rules.specs.Responses.{Says, Reply}
 use Rattle.rules.specs.Sound.{coreSound}
-use Rattle.rules.specs.Checks.{dataOf, decide}
+use Rattle.rules.specs.Checks.{decide}
 use Rattle.rules.specs.Outcomes.{noteBytes, reportBytes}
 use Rattle.promises.proofs.Decided.{replyOf}
 use Rattle.promises.proofs.Notes.{NoteWithin, status-small, note-within}
 use Rattle.promises.proofs.Packed.{from-start}
 use Rattle.promises.proofs.ReadBack.{number-small, ResponseMeans}
-use Rattle.promises.proofs.Replies.{carries-fits, Answered, AnsweredUnknown, AnsweredCommand, decide-answered}
+use Rattle.promises.proofs.Replies.{carries-fits, AnsweredUnknown, AnsweredCommand, decide-answered}
 
 -- the numbers of a note: its kind (0 none, 1 films queued, 2 a picture), and three more
 pub record NoteNumbers : Type 0 where
@@ -35,9 +36,9 @@ pub record NoteNumbers : Type 0 where
 
 -- how many films were queued; a picture's number, and the place and the length of its pixels
 abbrev pub numbersOf : Note → NoteNumbers
-numbersOf noNote = record { kind = 0; first = 0; second = 0; third = 0 }
-numbersOf (filmsQueued n) = record { kind = 1; first = n; second = 0; third = 0 }
-numbersOf (pictureAt n place size) = record { kind = 2; first = n; second = place; third = size }
+numbersOf NoNote = record { kind = 0; first = 0; second = 0; third = 0 }
+numbersOf (FilmsQueued n) = record { kind = 1; first = n; second = 0; third = 0 }
+numbersOf (PictureAt n place size) = record { kind = 2; first = n; second = place; third = size }
 
 -- What the bytes of a report mean, read by place: status, length of command, length of data set and kind of note of 2 bytes, three numbers of 4.
 pub record ReportMeans (s : List ℕ) (r : Reply) : Type 0 where
@@ -56,14 +57,14 @@ numberBytes n = octets 2 (n .kind) ++ (octets 4 (n .first) ++ (octets 4 (n .seco
 
 note-bytes : (note : Note) → noteBytes note ≡ numberBytes (numbersOf note)
 unfolding octets
-note-bytes noNote = refl
-note-bytes (filmsQueued n) = refl
-note-bytes (pictureAt n place size) = refl
+note-bytes NoNote = refl
+note-bytes (FilmsQueued n) = refl
+note-bytes (PictureAt n place size) = refl
 
 kind-small : (note : Note) → numbersOf note .kind < 65536
-kind-small noNote = omega arith
-kind-small (filmsQueued n) = omega arith
-kind-small (pictureAt n place size) = omega arith
+kind-small NoNote = omega arith
+kind-small (FilmsQueued n) = omega arith
+kind-small (PictureAt n place size) = omega arith
 
 -- a number of a note is of 4 bytes
 abbrev pub NoteFits : Note → Type 0
@@ -114,9 +115,9 @@ report-reads r fits s h =
 
 -- what a note tells of a data set that fits a message buffer fits its widths
 note-fits : (bytes : ℕ) (note : Note) → bytes ≤ mostRoom → NoteWithin bytes note → NoteFits note
-note-fits bytes noNote h w = omega arith
-note-fits bytes (filmsQueued n) h w = omega arith
-note-fits bytes (pictureAt n place size) h w = omega arith
+note-fits bytes NoNote h w = omega arith
+note-fits bytes (FilmsQueued n) h w = omega arith
+note-fits bytes (PictureAt n place size) h w = omega arith
 
 -- command and data set fit their buffers
 abbrev pub LengthsFit : Reply → Type 0
@@ -126,14 +127,10 @@ unknown-lengths : (message field : ℕ) (x : Result Core Reply) → AnsweredUnkn
 unknown-lengths message field (fails p) h = (omega (arith, h .fits), omega (arith, ap length (h .no-data)))
 unknown-lengths message field (does k p) h = absurd h
 
-request-lengths : (k : Core) (c : List ℕ) (d : DataSet) (r : Request) (x : Result Core Reply) → Answered k c d r x → LengthsFit (replyOf x)
-request-lengths k c d r (fails p) h = (omega (arith, h .fits), omega (arith, carries-fits (h .carries)))
-request-lengths k c d r (does after p) h = (omega (arith, h .fits), omega (arith, carries-fits (h .carries)))
-
 command-lengths : (k : Core) (c : List ℕ) (d : DataSet) (o : Command) (x : Result Core Reply) → AnsweredCommand k c d o x → LengthsFit (replyOf x)
 command-lengths k c d Unreadable x h = unknown-lengths 0 0 x h
 command-lengths k c d (Unknown message field) x h = unknown-lengths message field x h
-command-lengths k c d (Known r) x h = request-lengths k c d r x h
+command-lengths k c d (Known r) x h = (omega (arith, h .fits), omega (arith, carries-fits (h .carries)))
 
 pub lengths-fit : (k : Core) (c : List ℕ) (d : DataSet) → coreSound k ≡ true → LengthsFit (replyOf (decide k c d))
 lengths-fit k c d sound = command-lengths k c d (understood c) (decide k c d) (decide-answered k c d sound)
@@ -151,19 +148,18 @@ status-told k c d Unreadable (fails p) a h = status-back _ p 0x0211 [] (a .means
 status-told k c d Unreadable (does after p) a h = absurd a
 status-told k c d (Unknown message field) (fails p) a h = status-back _ p 0x0211 [] (a .means) (a .status-is) h
 status-told k c d (Unknown message field) (does after p) a h = absurd a
-status-told k c d (Known r) (fails p) a h = status-back _ p (p .status) _ (a .means) refl h
-status-told k c d (Known r) (does after p) a h = status-back _ p (p .status) _ (a .means) refl h
+status-told k c d (Known r) x a h = status-back _ (replyOf x) (replyOf x .status) _ (a .means) refl h
 
 -- The response shows the status that was decided.
 pub status-shown : (k : Core) (c : List ℕ) (d : DataSet) → coreSound k ≡ true → StatusBack (replyOf (decide k c d))
 status-shown k c d sound = status-told k c d (understood c) (decide k c d) (decide-answered k c d sound) (status-small k sound c d)
 
-module _ (k : Core) (c : List ℕ) (d : DataSet) (sound : coreSound k ≡ true) (room : length (dataOf d) ≤ mostRoom) where
+module _ (k : Core) (c : List ℕ) (d : DataSet) (sound : coreSound k ≡ true) (room : length (d .bytes) ≤ mostRoom) where
   -- the numbers of every report fit their widths
   pub report-fits : ReportFits (replyOf (decide k c d))
   report-fits =
       let lengths = lengths-fit k c d sound in
-      record { status = status-small k sound c d; command = omega arith; dataSet = omega arith; note = note-fits (length (dataOf d)) (replyOf (decide k c d) .note) room (note-within k sound c d) }
+      record { status = status-small k sound c d; command = omega arith; dataSet = omega arith; note = note-fits (length (d .bytes)) (replyOf (decide k c d) .note) room (note-within k sound c d) }
 
   -- Whatever is replied to a request, its report is read from its bytes as it was meant.
   pub report-means : ReportMeans (reportBytes (replyOf (decide k c d))) (replyOf (decide k c d))

@@ -10,15 +10,17 @@ use Rattle.choice.specs.Pick.{either}
 use Rattle.strike.specs.Service.{Call, feed, aside}
 use Rattle.strike.specs.Machine as machine
 use Rattle.strike.specs.Machine.{Input, idle, inData, Records, Answer}
-use Rattle.strike.specs.Messages.{mayBegin, unfinished, roleOfFragment, countAfter, messageOf, cutBy, struck, without, strikeable, says, isOf, fateOf, roleIf, roleOf, eventOf, historyFrom, history, answers, after}
+use Rattle.strike.specs.Messages.{without, fateOf, history, answers, after}
 use Rattle.strike.specs.Messages.{succeeded, failed, wasDropped, wasCutOff, callsOf}
+use Rattle.rules.specs.Bounds.{entryRoom}
 use Rattle.rules.proofs.Book.{theBook}
 use Rattle.rules.specs.declared.Core.{Core}
 use Rattle.rules.specs.Responses.{Reply}
-use Rattle.rules.specs.Calls.{Handed, printing}
+use Rattle.rules.specs.Calls.{Lengths, taking, handed, printing}
 use Rattle.rules.proofs.Stage.{nothingLive}
 use Rattle.elements.specs.Reader.{dataSet}
 use Rattle.promises.proofs.Fakes.{makes}
+use Rattle.strike.proofs.Opened.{theMessages}
 
 -- N-SET of session 1.2.3, whose data set follows
 abbrev pub sets : List ℕ
@@ -46,16 +48,16 @@ stray =
     0x00 ∷ 0x00 ∷ 0x00 ∷ 0x02 ∷ 0x01 ∷ 0x02 ∷ []
 
 -- buffers just long enough, and with a command buffer that is too short
-abbrev lent : ℕ → Handed
-lent command = record { root = []; serial = 0; picture = 0; context = 0; syntax = 0; message = 4096; command = command; dataSet = 8192; report = 20; entry = 212 }
+abbrev lent : ℕ → Lengths
+lent command = record { message = 4096; command = command; dataSet = 8192; report = 20 }
 
 -- Six messages, with a take and a refused feed among them. Message 2 fails; 3 is cut off by 4, which is dropped; 5 is cut off by 6, which
 -- fails.
-abbrev calls : List (Call Handed)
+abbrev calls : List (Call handed)
 calls =
     feed makes (lent 256)
     ∷ feed makes (lent 256)
-    ∷ aside (lent 256)
+    ∷ aside (taking entryRoom)
     ∷ feed sets (lent 256)
     ∷ feed someData (lent 255)
     ∷ feed someData (lent 256)
@@ -72,7 +74,7 @@ before = record { core = nothingLive; input = idle }
 abbrev struckOut : ℕ → Bool
 struckOut n = either (eqb n 2) (ltb 3 n)
 
-abbrev left : List (Call Handed)
+abbrev left : List (Call handed)
 left = callsOf (without struckOut (history printing before calls))
 
 -- an answer by its number, or a response by its status
@@ -100,5 +102,5 @@ pub run-at-work :
     × (map told (answers printing before left) ≡ 0x0000 ∷ 6 ∷ 16 ∷ 2 ∷ 16 ∷ [])
     × (waiting (after printing before calls .input) ≡ 0)
     × (waiting (after printing before left .input) ≡ 4)
-unfolding theBook mayBegin unfinished roleOfFragment countAfter messageOf cutBy struck without strikeable says isOf fateOf roleIf roleOf eventOf historyFrom history answers after
+unfolding theBook theMessages
 run-at-work = (refl, refl, refl, refl, refl)

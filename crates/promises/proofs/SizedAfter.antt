@@ -24,10 +24,12 @@ use Rattle.rules.specs.declared.Core.{Core}
 use Rattle.rules.specs.Lists.{every, from, filledTo, without}
 use Rattle.rules.specs.Values.{trimmed, blank, labelByte, labelAllowed, countsIn}
 use Rattle.rules.specs.Records.{madeName, sentName, boxCount, boxesOf, noBox, noFilm, filmsOf, shelved, noEntry, entriesOf, queued, noSession, newSession}
-use Rattle.rules.specs.Attributes.{Listing, look, valueOf, fine, mandatory, optional, attributeRules, sessionStandings, sessionWith, filmWith, layoutIn, Image, keeps, erases, tooMany, fills, imageIn}
+use Rattle.rules.specs.declared.Image.{Image}
+use Rattle.rules.specs.declared.Image.the-variants.{Keeps, Erases, TooMany, Fills}
+use Rattle.rules.specs.Attributes.{Listing, look, valueOf, fine, mandatory, optional, attributeRules, sessionStandings, sessionWith, filmWith, layoutIn, imageIn}
 use Rattle.rules.specs.Effects.{nameFrom, nextTicket, sessionCreated, newBox, newFilm, filmCreated, sessionSet, filmAt, filmSet, boxSetIn, numbersAfter, boxSet, sessionDeleted, filmDeleted, pictureOn, entryOf, entriesFor, ticketAfter, printed, queueRoom}
 use Rattle.rules.specs.Checks.{createRules, newSessionRules, newFilmRules, sentUid, sessionPrintRules, filmPrintRules}
-use Rattle.rules.specs.Calls.{Handed, startRules, started, opened, closed, taken}
+use Rattle.rules.specs.Calls.{Starting, Opening, startRules, started, opened, closed, taken}
 use Rattle.promises.proofs.ListLaws.{from-length, Each, each-or, each-append, each-take, each-drop, each-without, each-set, each-filled, filled-length}
 use Rattle.promises.proofs.Standings.{kept-fine, or-kept}
 use Rattle.promises.proofs.Layouts.{lines-few, layout-few}
@@ -72,7 +74,7 @@ film-at-sized k i z = each-or FilmSized (filmsOf (k .shelf)) i noFilm (films-siz
 
 -- Start, open, close, take.
 
-pub started-sized : (h : Handed) → Kept (startRules h) → Sized (started h)
+pub started-sized : (h : Starting) → Kept (startRules h) → Sized (started h)
 unfolding started
 started-sized h r =
     let t = either-false (not (isUid (h .root))) (ltb rootLimit (length (h .root))) (r .0) in
@@ -83,7 +85,7 @@ started-sized h r =
       queue = queued-sized [] (omega arith) tt;
     }
 
-pub opened-sized : (k : Core) (h : Handed) → Sized k → Sized (opened k h)
+pub opened-sized : (k : Core) (h : Opening) → Sized k → Sized (opened k h)
 unfolding opened
 opened-sized k h z = record { numbers = z .numbers; session = z .session; shelf = z .shelf; queue = z .queue }
 
@@ -91,9 +93,9 @@ pub closed-sized : (k : Core) → Sized k → Sized (closed k)
 unfolding closed
 closed-sized k z = record { numbers = z .numbers; session = no-session-sized; shelf = shelved-sized [] (omega arith) tt; queue = z .queue }
 
-pub taken-sized : (k : Core) (h : Handed) → Sized k → Sized (taken k h .0)
+pub taken-sized : (k : Core) → Sized k → Sized (taken k .0)
 unfolding taken
-taken-sized k h z =
+taken-sized k z =
     let entries = entriesOf (k .queue) in
     let t = entries-sized (k .queue) (z .queue) in
     let few : length (drop 1 entries) ≤ mostEntries = simp length-drop (omega (arith, t .0)) in
@@ -188,10 +190,10 @@ film-set-sized k i l z = record {
 }
 
 numbers-after-sized : (image : Image) (n : Numbers) → NumbersSized n → NumbersSized (numbersAfter image n)
-numbers-after-sized keeps n z = z
-numbers-after-sized erases n z = z
-numbers-after-sized tooMany n z = z
-numbers-after-sized (fills item) n z = record { root = z .root; ticket = z .ticket }
+numbers-after-sized Keeps n z = z
+numbers-after-sized Erases n z = z
+numbers-after-sized TooMany n z = z
+numbers-after-sized (Fills inside) n z = record { root = z .root; ticket = z .ticket }
 
 pub box-set-sized : (k : Core) (i j : ℕ) (l : Listing) → Sized k → Sized (boxSet k i j l)
 unfolding boxSet

@@ -1,13 +1,10 @@
 -- Arrays have their lengths after every call.
 -- Assumes nothing.
-use Prim.Native.Nat.{ℕ}
-use mathlib.Core.List.{List}
-use Rattle.strike.specs.Service.{DataSet, Call}
+use Rattle.strike.specs.Service.{Call}
 use Rattle.strike.specs.Machine.{Records, step}
 use Rattle.rules.specs.declared.Core.{Core}
-use Rattle.rules.specs.Checks.{decide}
-use Rattle.rules.specs.Calls.{Handed, printing}
-use Rattle.promises.proofs.Decided.{After, OfDone, decided}
+use Rattle.rules.specs.Calls.{handed, printing}
+use Rattle.promises.proofs.Decided.{After}
 use Rattle.promises.proofs.Steps.{step-kept}
 use Rattle.promises.proofs.Sized.{Sized}
 use Rattle.promises.proofs.SizedAfter.{started-sized, opened-sized, closed-sized, taken-sized, session-created-sized, session-set-sized, session-deleted-sized, film-created-sized, film-set-sized, film-deleted-sized, box-set-sized, session-printed-sized, film-printed-sized}
@@ -26,18 +23,14 @@ after-sized k z = record {
   noFilm = λ uid i n. film-deleted-sized k i z;
 }
 
--- after a request that is done
-pub decide-sized : (k : Core) (c : List ℕ) (d : DataSet) → Sized k → OfDone Sized (decide k c d)
-decide-sized k c d z = decided Sized k (after-sized k z) c d
-
 -- arrays have their lengths after every call
-pub step-sized : (s : Records Core) (c : Call Handed) → Sized (s .core) → Sized (step printing s c .records .core)
+pub step-sized : (s : Records Core) (c : Call handed) → Sized (s .core) → Sized (step printing s c .records .core)
 step-sized s c z =
     step-kept Sized s
     (record {
       open-kept = λ h r. opened-sized (s .core) h z;
       close-kept = closed-sized (s .core) z;
-      take-kept = λ h r. taken-sized (s .core) h z;
+      take-kept = taken-sized (s .core) z;
       request-kept = after-sized (s .core) z;
     })
     c (λ h e r. started-sized h r)

@@ -9,19 +9,25 @@ use Rattle.choice.specs.Pick.{pick, not}
 use Rattle.choice.specs.Rules.{Rule, _⇒_, firstOr}
 use Rattle.headers.specs.declared.Part.{Part}
 use Rattle.strike.specs.Service.{DataSet, Result, fails, does}
+use Rattle.rules.specs.declared.Name.{Name}
 use Rattle.rules.specs.declared.Core.{Core}
+use Rattle.rules.specs.declared.Note.the-variants.{NoNote}
 use Rattle.rules.specs.declared.Operation.{Operation}
 use Rattle.rules.specs.declared.Operation.the-variants.{Echo, Create, Set, Act, Delete}
 use Rattle.rules.specs.declared.Request.{Request}
 use Rattle.rules.specs.declared.Command.{Command}
 use Rattle.rules.specs.declared.Command.the-variants.{Unreadable, Unknown, Known}
 use Rattle.rules.specs.Lists.{any}
-use Rattle.rules.specs.Records.{explicitVR, Instance, nobody, theSession, theFilm, theBox, named}
+use Rattle.rules.specs.declared.Instance.{Instance}
+use Rattle.rules.specs.declared.Instance.the-variants.{Nobody, TheSession, TheFilm, TheBox}
+use Rattle.rules.specs.Records.{sentName, syntaxIn, named}
 use Rattle.rules.specs.Commands.{uidAt, understood}
 use Rattle.rules.specs.Attributes.{Listing, listingOf}
 use Rattle.rules.specs.Responses.{isFailure, Reply, reply}
 use Rattle.rules.specs.Effects.{noneFilled}
-use Rattle.rules.specs.Checks.{Class, verification, sessions, films, boxes, unknownClass, classOf, dataOf, generalRules, createRules, targetRules, Plan, sentUid, createPlan, setPlan, actionPlan, deletePlan, also, planOf, failed, answered, decideRequest, decideCommand, decide}
+use Rattle.rules.specs.declared.Class.{Class}
+use Rattle.rules.specs.declared.Class.the-variants.{Verification, Sessions, Films, Boxes, UnknownClass}
+use Rattle.rules.specs.Checks.{classOf, generalRules, createRules, targetRules, Plan, sentUid, createPlan, setPlan, actionPlan, deletePlan, also, planOf, failed, resultOf, decideRequest, decideCommand, decide}
 
 -- the status of a failure, and of what is done
 abbrev pub Fails : ℕ → Type 0
@@ -70,7 +76,8 @@ act-failing k c class instance kind = (refl, (refl, (refl, tt)))
 
 record Planned (p : Plan) : Type 0 where
   rules-failing : Failing (p .rules)
-  done-succeeds : Succeeds (p .done .status)
+  is-done : p .verdict .done ≡ true
+  done-succeeds : Succeeds (p .verdict .status)
 
 picked-succeeds : (t : Bool) (warning : ℕ) → Succeeds warning → Succeeds (pick t warning 0x0000)
 picked-succeeds true warning w = w
@@ -78,76 +85,81 @@ picked-succeeds false warning w = refl
 
 create-planned : (k : Core) (class : Class) (sent : List ℕ) (l : Listing) → Planned (createPlan k class sent l)
 unfolding createPlan
-create-planned k verification sent l = record { rules-failing = tt; done-succeeds = refl }
-create-planned k sessions sent l = record {
+create-planned k Verification sent l = record { rules-failing = tt; is-done = refl; done-succeeds = refl }
+create-planned k Sessions sent l = record {
   rules-failing = (refl, (refl, (refl, (refl, (refl, tt)))));
+  is-done = refl;
   done-succeeds = refl;
 }
-create-planned k films sent l = record {
+create-planned k Films sent l = record {
   rules-failing = (refl, (refl, (refl, (refl, (refl, tt)))));
+  is-done = refl;
   done-succeeds = refl;
 }
-create-planned k boxes sent l = record { rules-failing = tt; done-succeeds = refl }
-create-planned k unknownClass sent l = record { rules-failing = tt; done-succeeds = refl }
+create-planned k Boxes sent l = record { rules-failing = tt; is-done = refl; done-succeeds = refl }
+create-planned k UnknownClass sent l = record { rules-failing = tt; is-done = refl; done-succeeds = refl }
 
-set-planned : (k : Core) (x : Instance) (uid : List ℕ) (l : Listing) → Planned (setPlan k x uid l)
+set-planned : (k : Core) (x : Instance) (name : Name) (l : Listing) → Planned (setPlan k x name l)
 unfolding setPlan
-set-planned k nobody uid l = record { rules-failing = tt; done-succeeds = refl }
-set-planned k theSession uid l = record { rules-failing = (refl, (refl, (refl, tt))); done-succeeds = refl }
-set-planned k (theFilm i) uid l = record { rules-failing = (refl, (refl, (refl, tt))); done-succeeds = refl }
-set-planned k (theBox i j) uid l = record {
+set-planned k Nobody name l = record { rules-failing = tt; is-done = refl; done-succeeds = refl }
+set-planned k TheSession name l = record { rules-failing = (refl, (refl, (refl, tt))); is-done = refl; done-succeeds = refl }
+set-planned k (TheFilm i) name l = record { rules-failing = (refl, (refl, (refl, tt))); is-done = refl; done-succeeds = refl }
+set-planned k (TheBox i j) name l = record {
   rules-failing = (refl, (refl, (refl, (refl, tt))));
+  is-done = refl;
   done-succeeds = refl;
 }
 
-action-planned : (k : Core) (x : Instance) (uid : List ℕ) → Planned (actionPlan k x uid)
+action-planned : (k : Core) (x : Instance) (name : Name) → Planned (actionPlan k x name)
 unfolding actionPlan
-action-planned k nobody uid = record { rules-failing = tt; done-succeeds = refl }
-action-planned k theSession uid = record {
+action-planned k Nobody name = record { rules-failing = tt; is-done = refl; done-succeeds = refl }
+action-planned k TheSession name = record {
   rules-failing = (refl, (refl, (refl, tt)));
+  is-done = refl;
   done-succeeds = picked-succeeds (any noneFilled _) 0xB602 refl;
 }
-action-planned k (theFilm i) uid = record {
+action-planned k (TheFilm i) name = record {
   rules-failing = (refl, (refl, tt));
+  is-done = refl;
   done-succeeds = picked-succeeds (any noneFilled _) 0xB603 refl;
 }
-action-planned k (theBox i j) uid = record { rules-failing = tt; done-succeeds = refl }
+action-planned k (TheBox i j) name = record { rules-failing = tt; is-done = refl; done-succeeds = refl }
 
-delete-planned : (k : Core) (x : Instance) (uid : List ℕ) → Planned (deletePlan k x uid)
+delete-planned : (k : Core) (x : Instance) (name : Name) → Planned (deletePlan k x name)
 unfolding deletePlan
-delete-planned k nobody uid = record { rules-failing = tt; done-succeeds = refl }
-delete-planned k theSession uid = record { rules-failing = tt; done-succeeds = refl }
-delete-planned k (theFilm i) uid = record { rules-failing = tt; done-succeeds = refl }
-delete-planned k (theBox i j) uid = record { rules-failing = tt; done-succeeds = refl }
+delete-planned k Nobody name = record { rules-failing = tt; is-done = refl; done-succeeds = refl }
+delete-planned k TheSession name = record { rules-failing = tt; is-done = refl; done-succeeds = refl }
+delete-planned k (TheFilm i) name = record { rules-failing = tt; is-done = refl; done-succeeds = refl }
+delete-planned k (TheBox i j) name = record { rules-failing = tt; is-done = refl; done-succeeds = refl }
 
 also-planned : (rules : List Rule) (p : Plan) → Failing rules → Planned p → Planned (also rules p)
-also-planned rules p f g = record { rules-failing = failing-both rules (p .rules) f (g .rules-failing); done-succeeds = g .done-succeeds }
+also-planned rules p f g = record { rules-failing = failing-both rules (p .rules) f (g .rules-failing); is-done = g .is-done; done-succeeds = g .done-succeeds }
 
-planned : (k : Core) (c : List ℕ) (d : DataSet) (o : Operation) → Planned (planOf k c d o)
+planned : (k : Core) (c : List ℕ) (d : DataSet) (o : Operation) → Planned (planOf k c (d .bytes) o)
 unfolding planOf
-planned k c d (Echo r) = record { rules-failing = tt; done-succeeds = refl }
+planned k c d (Echo r) = record { rules-failing = tt; is-done = refl; done-succeeds = refl }
 planned k c d (Create r) =
     also-planned (createRules k c (r .sent)) _ (create-failing k c (r .sent))
-    (create-planned k (classOf (uidAt c (r .class))) (sentUid c (r .sent)) (listingOf (dataOf d) (explicitVR k)))
+    (create-planned k (classOf (uidAt c (r .class))) (sentUid c (r .sent)) (listingOf (d .bytes) (syntaxIn k)))
 planned k c d (Set r) =
     also-planned (targetRules k c (r .class) (r .instance)) _ (target-failing k c (r .class) (r .instance))
-    (set-planned k (named k (uidAt c (r .instance))) (uidAt c (r .instance)) (listingOf (dataOf d) (explicitVR k)))
+    (set-planned k (named k (uidAt c (r .instance))) (sentName (uidAt c (r .instance))) (listingOf (d .bytes) (syntaxIn k)))
 planned k c d (Act r) =
     also-planned (targetRules k c (r .class) (r .instance) ++ ((not (eqb (r .kind) 1) ⇒ 0x0123) ∷ [])) _
     (act-failing k c (r .class) (r .instance) (r .kind))
-    (action-planned k (named k (uidAt c (r .instance))) (uidAt c (r .instance)))
+    (action-planned k (named k (uidAt c (r .instance))) (sentName (uidAt c (r .instance))))
 planned k c d (Delete r) =
     also-planned (targetRules k c (r .class) (r .instance)) _ (target-failing k c (r .class) (r .instance))
-    (delete-planned k (named k (uidAt c (r .instance))) (uidAt c (r .instance)))
+    (delete-planned k (named k (uidAt c (r .instance))) (sentName (uidAt c (r .instance))))
 
-request-statused : (k : Core) (c : List ℕ) (d : DataSet) (r : Request) → Statused (decideRequest k c d r)
+request-statused : (k : Core) (c : List ℕ) (d : DataSet) (r : Request) → Statused (resultOf k c r (decideRequest k c d r))
 unfolding decideRequest reply
 request-statused k c d r =
     let p = planned k c d (r .operation) in
-    failing-cases Statused (failed c r) (generalRules k c d (r .operation) ++ planOf k c d (r .operation) .rules) (answered c r (planOf k c d (r .operation) .done))
+    failing-cases (λ v. Statused (resultOf k c r v)) (failed k c r NoNote) (generalRules k c d (r .operation) ++ planOf k c (d .bytes) (r .operation) .rules) (planOf k c (d .bytes) (r .operation) .verdict)
     (failing-both (generalRules k c d (r .operation)) _ (general-failing k c d (r .operation)) (p .rules-failing))
     (λ n f. f)
-    (p .done-succeeds)
+    (rw (p .is-done) (p .done-succeeds))
 
 command-statused : (k : Core) (c : List ℕ) (d : DataSet) (x : Command) → Statused (decideCommand k c d x)
 unfolding reply

@@ -10,18 +10,18 @@ use Rattle.strike.specs.Messages as messages
 use Rattle.rules.specs.declared.Core.{Core}
 use Rattle.rules.specs.Responses.{Reply}
 use Rattle.rules.specs.Checks.{decide}
-use Rattle.rules.specs.Calls.{Handed, startRules, openRules, takeRules, rulesOf, check, started, opened, closed, taken, reading, printing}
+use Rattle.rules.specs.Calls.{Starting, Opening, taking, handed, startRules, openRules, rulesOf, check, started, opened, closed, taken, reading, printing}
 use Rattle.promises.proofs.Decided.{After, OfDone, decided}
 
 -- Any fact of the records.
 
 -- one call: it leaves the records as they are, or is not refused
-pub step-cases : (P : Records Core → Type 0) (s : Records Core) (c : Call Handed) → P s → (Kept (rulesOf (s .core) c) → P (checked printing passes s c .records)) → P (step printing s c .records)
+pub step-cases : (P : Records Core → Type 0) (s : Records Core) (c : Call handed) → P s → (Kept (rulesOf (s .core) c) → P (checked printing passes s c .records)) → P (step printing s c .records)
 unfolding step check checked
 step-cases P s c p f = first-cases (λ (x : Check). P (checked printing x s c .records)) refuses (rulesOf (s .core) c) passes (λ n. p) f
 
 -- a run of calls
-pub run-cases : (P : Records Core → Type 0) → ((s : Records Core) (c : Call Handed) → P s → P (step printing s c .records)) → (s : Records Core) (cs : List (Call Handed)) → P s → P (messages.after printing s cs)
+pub run-cases : (P : Records Core → Type 0) → ((s : Records Core) (c : Call handed) → P s → P (step printing s c .records)) → (s : Records Core) (cs : List (Call handed)) → P s → P (messages.after printing s cs)
 unfolding messages.after
 run-cases P f s [] p = p
 run-cases P f s (c ∷ cs) p = run-cases P f (step printing s c .records) cs (f s c p)
@@ -30,9 +30,9 @@ run-cases P f s (c ∷ cs) p = run-cases P f (step printing s c .records) cs (f 
 
 -- a fact holds after each call but start
 pub record AfterCalls (P : Core → Type 0) (k : Core) : Type 0 where
-  pub open-kept : (h : Handed) → Kept (openRules k h) → P (opened k h)
+  pub open-kept : (h : Opening) → Kept (openRules k h) → P (opened k h)
   pub close-kept : P (closed k)
-  pub take-kept : (h : Handed) → Kept (takeRules k h) → P (taken k h .0)
+  pub take-kept : P (taken k .0)
   pub request-kept : After P k
 
 module _ (P : Core → Type 0) (s : Records Core) (each : AfterCalls P (s .core)) where
@@ -53,18 +53,18 @@ module _ (P : Core → Type 0) (s : Records Core) (each : AfterCalls P (s .core)
   fed-kept none = each .close-kept
   fed-kept (some f) = outcome-kept (collect reading (s .core .opened .room) (s .input) f)
 
-  passed-kept : (c : Call Handed) → ((h : Handed) → c ≡ start h → Kept (startRules h) → P (started h)) → Kept (rulesOf (s .core) c) → P (checked printing passes s c .records .core)
+  passed-kept : (c : Call handed) → ((h : Starting) → c ≡ start h → Kept (startRules h) → P (started h)) → Kept (rulesOf (s .core) c) → P (checked printing passes s c .records .core)
   unfolding checked
   passed-kept (start h) f r = f h refl r
   passed-kept (opening h) f r = each .open-kept h r
   passed-kept (feed bytes h) f r = fed-kept (fragmentIn (s .core .opened .context) bytes)
-  passed-kept (close h) f r = each .close-kept
-  passed-kept (aside h) f r = each .take-kept h r
+  passed-kept close f r = each .close-kept
+  passed-kept (aside (taking entry)) f r = each .take-kept
 
   -- one call
-  pub step-kept : (c : Call Handed) → ((h : Handed) → c ≡ start h → Kept (startRules h) → P (started h)) → P (step printing s c .records .core)
+  pub step-kept : (c : Call handed) → ((h : Starting) → c ≡ start h → Kept (startRules h) → P (started h)) → P (step printing s c .records .core)
   step-kept c f = step-cases (λ (x : Records Core). P (x .core)) s c (each .request-kept .kept) (passed-kept c f)
 
 -- a run of calls
-pub run-kept : (P : Core → Type 0) → ((h : Handed) → Kept (startRules h) → P (started h)) → ((k : Core) → P k → AfterCalls P k) → (s : Records Core) (cs : List (Call Handed)) → P (s .core) → P (messages.after printing s cs .core)
+pub run-kept : (P : Core → Type 0) → ((h : Starting) → Kept (startRules h) → P (started h)) → ((k : Core) → P k → AfterCalls P k) → (s : Records Core) (cs : List (Call handed)) → P (s .core) → P (messages.after printing s cs .core)
 run-kept P f g = run-cases (λ (s : Records Core). P (s .core)) (λ s c p. step-kept P s (g (s .core) p) c (λ h e r. f h r))

@@ -7,7 +7,7 @@ use native.Mathlib.Omega.{arith}
 use lib.ListN.{length, getD, drop, length-append}
 use borrow.Author.Tests.{ltb-false}
 use Rattle.choice.proofs.Picks.{pick-cases}
-use Rattle.strike.specs.Service.{DataSet, does, Call}
+use Rattle.strike.specs.Service.{Call}
 use Rattle.strike.specs.Machine.{Records}
 use Rattle.strike.specs.Messages.{after}
 use Rattle.rules.specs.declared.Film.{Film}
@@ -15,13 +15,12 @@ use Rattle.rules.specs.declared.Numbers.{Numbers}
 use Rattle.rules.specs.declared.Entry.{Entry}
 use Rattle.rules.specs.declared.Core.{Core}
 use Rattle.rules.specs.Records.{noEntry, entriesOf, queued, filmsOf, pictureUsed}
-use Rattle.rules.specs.Attributes.{Image, imageIn, isFill}
-use Rattle.rules.specs.Effects.{nextTicket, entryOf, entriesFor, ticketAfter, printed, queueRoom, numbersAfter, sessionCreated, filmCreated, sessionSet, filmAt, filmSet, boxSet, sessionDeleted, filmDeleted}
-use Rattle.rules.specs.Responses.{Reply}
-use Rattle.rules.specs.Checks.{decide}
-use Rattle.rules.specs.Calls.{Handed, started, opened, closed, taken, printing}
+use Rattle.rules.specs.declared.Image.{Image}
+use Rattle.rules.specs.Attributes.{imageIn, isFill}
+use Rattle.rules.specs.Effects.{nextTicket, entryOf, entriesFor, ticketAfter, printed, queueRoom, numbersAfter, filmAt}
+use Rattle.rules.specs.Calls.{Starting, Opening, handed, started, opened, closed, taken, printing}
 use Rattle.promises.proofs.ListLaws.{entries-queued}
-use Rattle.promises.proofs.Decided.{After, decided-does}
+use Rattle.promises.proofs.Decided.{After, theEffects}
 use Rattle.promises.proofs.Steps.{AfterCalls, run-kept}
 
 -- the tickets of entries follow each other from the first on, up to the next
@@ -67,10 +66,6 @@ unfolding entriesFor
 new-length k t [] = refl
 new-length k t (f ∷ films) = ap suc (new-length k (nextTicket t) films)
 
--- so, from the next ticket on, t, t+1 .. modulo 65,536
-pub new-tickets : (k : Core) (t : ℕ) (films : List Film) → t < 65536 → (i : ℕ) → i < length films → getD (entriesFor k t films) i noEntry .ticket ≡ (t + i) % 65536
-new-tickets k t films s i h = ticket-at t (entriesFor k t films) (ticketAfter t films) s (new-follow k t films) i (rw (new-length k t films) h)
-
 pub ticket-after : (k : Core) (t : ℕ) (films : List Film) → t < 65536 → ticketAfter t films ≡ (t + length films) % 65536
 ticket-after k t films s = next-at t (entriesFor k t films) (ticketAfter t films) s (new-follow k t films) ∙ rw (new-length k t films)
 
@@ -103,12 +98,12 @@ oldest-taken : (t : ℕ) (es : List Entry) (next : ℕ) → length es ≤ 16 →
 oldest-taken t [] next l s f = record { few = l; oldest = t; small = s; follow = f }
 oldest-taken t (e ∷ es) next l s f = record { few = omega arith; oldest = nextTicket t; small = next-small t; follow = f .1 }
 
-pub started-ticketed : (h : Handed) → Ticketed (started h)
+pub started-ticketed : (h : Starting) → Ticketed (started h)
 unfolding started entriesOf queued
 started-ticketed h = record { few = omega arith; oldest = 0; small = omega arith; follow = refl }
 
 module _ (k : Core) (c : Ticketed k) where
-  pub opened-ticketed : (h : Handed) → Ticketed (opened k h)
+  pub opened-ticketed : (h : Opening) → Ticketed (opened k h)
   unfolding opened
   opened-ticketed h = c
 
@@ -116,9 +111,9 @@ module _ (k : Core) (c : Ticketed k) where
   unfolding closed
   closed-ticketed = c
 
-  pub taken-ticketed : (h : Handed) → Ticketed (taken k h .0)
+  pub taken-ticketed : Ticketed (taken k .0)
   unfolding taken
-  taken-ticketed h =
+  taken-ticketed =
       rw (entries-queued (drop 1 (entriesOf (k .queue))))
       (oldest-taken (c .oldest) (entriesOf (k .queue)) (k .numbers .ticket) (c .few) (c .small) (c .follow))
 
@@ -141,7 +136,7 @@ module _ (k : Core) (c : Ticketed k) where
   box-ticket image n = pick-cases (λ m. m .ticket ≡ n .ticket) (isFill image) (pictureUsed n) n (λ e. refl) (λ e. refl)
 
   after-ticketed : After Ticketed k
-  unfolding sessionCreated filmCreated sessionSet filmSet boxSet sessionDeleted filmDeleted
+  unfolding theEffects
   after-ticketed = record {
     kept = c;
     newSession = λ b sent l x y. c;
@@ -159,18 +154,14 @@ module _ (k : Core) (c : Ticketed k) where
     noFilm = λ uid i x. c;
   }
 
-  -- any request that is done
-  pub decided-ticketed : (b : List ℕ) (d : DataSet) (k' : Core) (r : Reply) → decide k b d ≡ does k' r → Ticketed k'
-  decided-ticketed = decided-does Ticketed k after-ticketed
-
   pub each-ticketed : AfterCalls Ticketed k
   each-ticketed = record {
     open-kept = λ h r. opened-ticketed h;
     close-kept = closed-ticketed;
-    take-kept = λ h r. taken-ticketed h;
+    take-kept = taken-ticketed;
     request-kept = after-ticketed;
   }
 
 -- after any run of calls the tickets in the queue are consecutive, at most sixteen
-pub run-ticketed : (s : Records Core) (cs : List (Call Handed)) → Ticketed (s .core) → Ticketed (after printing s cs .core)
+pub run-ticketed : (s : Records Core) (cs : List (Call handed)) → Ticketed (s .core) → Ticketed (after printing s cs .core)
 run-ticketed = run-kept Ticketed (λ h r. started-ticketed h) each-ticketed

@@ -73,14 +73,14 @@ blank-box b e =
     let t = each-zero (b .position ∷ b .polarity ∷ b .picture .0 ∷ []) e in
     box-of (b .position) (b .polarity) (b .picture .0) (t .0) (t .1 .0) (t .1 .1 .0)
 
-film-of : (name : Name) (turned lines : ℕ) (counts : List ℕ) (orientation magnification first : ℕ) (boxes : List ImageBox) → name ≡ noName → turned ≡ 0 → lines ≡ 0 → counts ≡ replicate 6 0 → orientation ≡ 0 → magnification ≡ 0 → first ≡ 0 → boxes ≡ replicate mostBoxes noBox → _≡_ {A = Film} (record { name = name; layout = record { turned = turned; lines = lines; counts = counts }; orientation = orientation; magnification = magnification; first = serial first; boxes = boxes }) noFilm
-film-of name turned lines counts orientation magnification first boxes d e f g h i j k = rw (d, e, f, g, h, i, j, k)
+film-of : (name : Name) (kind lines : ℕ) (counts : List ℕ) (orientation magnification first : ℕ) (boxes : List ImageBox) → name ≡ noName → kind ≡ 0 → lines ≡ 0 → counts ≡ replicate 6 0 → orientation ≡ 0 → magnification ≡ 0 → first ≡ 0 → boxes ≡ replicate mostBoxes noBox → _≡_ {A = Film} (record { name = name; layout = record { kind = kind; lines = lines; counts = counts }; orientation = orientation; magnification = magnification; first = serial first; boxes = boxes }) noFilm
+film-of name kind lines counts orientation magnification first boxes d e f g h i j k = rw (d, e, f, g, h, i, j, k)
 
 blank-film : (f : Film) → filmBlank f ≡ true → FilmSized f → f ≡ noFilm
 blank-film f e s =
     let t = all-true _ e in
-    let z = each-zero (f .layout .turned ∷ f .layout .lines ∷ f .orientation ∷ f .magnification ∷ f .first .0 ∷ []) (t .1 .0) in
-    film-of (f .name) (f .layout .turned) (f .layout .lines) (f .layout .counts) (f .orientation) (f .magnification) (f .first .0) (f .boxes)
+    let z = each-zero (f .layout .kind ∷ f .layout .lines ∷ f .orientation ∷ f .magnification ∷ f .first .0 ∷ []) (t .1 .0) in
+    film-of (f .name) (f .layout .kind) (f .layout .lines) (f .layout .counts) (f .orientation) (f .magnification) (f .first .0) (f .boxes)
     (blank-name (f .name) (t .0) (s .name))
     (z .0)
     (z .1 .0)

@@ -12,10 +12,12 @@ use borrow.Author.Tests.{leb-true}
 use Rattle.choice.specs.Pick.{pick}
 use Rattle.choice.proofs.Picks.{pick-cases}
 use Rattle.octets.specs.Octets.{Bytes}
-use Rattle.strike.specs.Service.{DataSet, whole, tooLong, Result, fails, does, Reading, unreadable, alone, withData, Call, start, opening, feed, close, aside, passes}
+use Rattle.strike.specs.declared.Reading.{Reading}
+use Rattle.strike.specs.declared.Reading.the-variants.{NotReadable, Alone, WithData}
+use Rattle.strike.specs.Service.{DataSet, whole, tooLong, Result, fails, does, Call, start, opening, feed, close, aside, passes}
 use Rattle.strike.specs.Machine as machine
-use Rattle.strike.specs.Machine.{Fragment, command, dataset, idle, inCommand, skippingCommand, inData, skippingData, Outcome, ignores, waits, drops, asks, Records, controlByte, headerWrong, fragmentIn, skips, reads, gathers, overflows, stores, collect, carriedOut, fed, checked, step}
-use Rattle.rules.specs.Bounds.{commandLimit, mostRoom, mostFilms, mostEntries}
+use Rattle.strike.specs.Machine.{commandLimit, Fragment, command, dataset, idle, inCommand, skippingCommand, inData, skippingData, Outcome, ignores, waits, drops, asks, Records, controlByte, headerWrong, fragmentIn, skips, reads, gathers, overflows, stores, collect, carriedOut, fed, checked, step}
+use Rattle.rules.specs.Bounds.{mostRoom, mostFilms, mostEntries}
 use Rattle.rules.specs.declared.Name.{Name}
 use Rattle.rules.specs.declared.Session.{Session}
 use Rattle.rules.specs.declared.Film.{Film}
@@ -28,8 +30,8 @@ use Rattle.rules.specs.declared.Input.{Input}
 use Rattle.rules.specs.Layout.{nameFormat, sessionFormat, layoutFormat, filmFormat, shelfFormat, entryFormat, queueFormat, numbersFormat, coreFormat, inputFormat, stateFormat, unpack}
 use Rattle.rules.specs.Responses.{Reply}
 use Rattle.rules.specs.Checks.{decide}
-use Rattle.rules.specs.Calls.{Handed, printing, reading}
-use Rattle.rules.specs.Outcomes.{commandHeld}
+use Rattle.rules.specs.Calls.{taking, handed, printing, reading}
+use Rattle.rules.specs.Records.{commandHeld}
 use Rattle.promises.proofs.ListLaws.{Each, each-all, each-append, each-take, each-drop}
 use Rattle.promises.proofs.Steps.{step-cases}
 use Rattle.promises.proofs.Packed.{state-laws}
@@ -136,9 +138,9 @@ skips-fits last = pick-cases OutcomeFits last drops (waits skippingCommand) (λ 
 
 reads-fits : (r : Reading) (c : List ℕ) → CommandFits c → OutcomeFits (reads r c)
 unfolding reads
-reads-fits unreadable c h = tt
-reads-fits alone c h = tt
-reads-fits withData c h = (h, omega arith)
+reads-fits NotReadable c h = tt
+reads-fits Alone c h = tt
+reads-fits WithData c h = (h, omega arith)
 
 gathers-fits : (c : List ℕ) (last : Bool) → Each Byte c → OutcomeFits (gathers reading c last)
 unfolding gathers
@@ -178,11 +180,11 @@ collect-fits room idle (dataset last bytes) k h g = tt
 -- A call.
 
 -- the fragment handed over is of bytes
-abbrev pub CallBytes : Call Handed → Type 0
+abbrev pub CallBytes : Call handed → Type 0
 CallBytes (start h) = Unit {0}
 CallBytes (opening h) = Unit {0}
 CallBytes (feed bytes h) = Each Byte bytes
-CallBytes (close h) = Unit {0}
+CallBytes close = Unit {0}
 CallBytes (aside h) = Unit {0}
 
 answered-fits : (k : Core) (d : DataSet) (r : Result Core Reply) → InputFits (machine.answered printing k d r .records .input)
@@ -202,14 +204,14 @@ unfolding fed
 fed-fits s none k h g = tt
 fed-fits s (some f) k h g = carried-fits (s .core) (collect reading (s .core .opened .room) (s .input) f) (collect-fits (s .core .opened .room) (s .input) f k h g)
 
-passed-fits : (s : Records Core) (c : Call Handed) → s .core .opened .room ≤ mostRoom → InputFits (s .input) → CallBytes c → InputFits (checked printing passes s c .records .input)
+passed-fits : (s : Records Core) (c : Call handed) → s .core .opened .room ≤ mostRoom → InputFits (s .input) → CallBytes c → InputFits (checked printing passes s c .records .input)
 unfolding checked
 passed-fits s (start a) k h g = tt
 passed-fits s (opening a) k h g = tt
 passed-fits s (feed bytes a) k h g = fed-fits s (fragmentIn (s .core .opened .context) bytes) k h (fragment-fits (s .core .opened .context) bytes g)
-passed-fits s (close a) k h g = tt
-passed-fits s (aside a) k h g = h
+passed-fits s close k h g = tt
+passed-fits s (aside (taking entry)) k h g = h
 
 -- the input fits its fields after every call
-pub step-fits : (s : Records Core) (c : Call Handed) → s .core .opened .room ≤ mostRoom → InputFits (s .input) → CallBytes c → InputFits (step printing s c .records .input)
+pub step-fits : (s : Records Core) (c : Call handed) → s .core .opened .room ≤ mostRoom → InputFits (s .input) → CallBytes c → InputFits (step printing s c .records .input)
 step-fits s c k h g = step-cases (λ (x : Records Core). InputFits (x .input)) s c h (λ r. passed-fits s c k h g)

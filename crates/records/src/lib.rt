@@ -1,59 +1,109 @@
 // Records: the records' structs, read from their bytes and written to them, as the book's formats say.
+use rules::BOXES;
+use rules::COMMAND;
 use rules::Core;
+use rules::ENTRIES;
 use rules::Entry;
+use rules::FILMS;
 use rules::Film;
 use rules::ImageBox;
 use rules::Input;
+use rules::LINES;
 use rules::Layout;
 use rules::Name;
 use rules::Numbers;
 use rules::Opened;
 use rules::Picture;
 use rules::Queue;
+use rules::ROOT;
 use rules::Serial;
 use rules::Session;
 use rules::Shelf;
 use rules::State;
+use rules::TEXT;
 ghost use mathlib.Core.Path.{_≡_};
-ghost use Prim.Native.Nat.{_+_, _≤_};
+ghost use Prim.Native.Nat.{_+_, _*_, _≤_};
 ghost use lib.ListN.{length};
 ghost use Rattle.fields.specs.Format.{write, array};
-ghost use Rattle.rules.specs.Layout.{serialFormat, pictureFormat, nameFormat, boxFormat, layoutFormat, sessionFormat, numbersFormat, openedFormat, inputFormat, filmFormat, shelfFormat, entryFormat, queueFormat, coreFormat, stateFormat};
+ghost use Rattle.rules.specs.Bounds.{mostFilms, mostBoxes, mostEntries};
+ghost use Rattle.rules.specs.Layout.{serialSize, pictureSize, nameSize, boxSize, layoutSize, sessionSize, numbersSize, openedSize, inputSize, filmSize, shelfSize, entrySize, queueSize, coreSize, recordsSize, serialFormat, pictureFormat, nameFormat, boxFormat, layoutFormat, sessionFormat, numbersFormat, openedFormat, inputFormat, filmFormat, shelfFormat, entryFormat, queueFormat, coreFormat, stateFormat};
+
+// How many bytes each has: its fields, one behind the other.
+pub const SERIAL: usize = 4;
+
+pub const PICTURE: usize = 4;
+
+pub const NAME: usize = SERIAL + 1 + TEXT;
+
+pub const IMAGE_BOX: usize = 1 + 1 + PICTURE;
+
+pub const LAYOUT: usize = 1 + 1 + LINES;
+
+pub const SESSION: usize = 1 + NAME + 1 + 1 + 1 + 1 + 1 + TEXT;
+
+pub const NUMBERS: usize = 1 + ROOT + 5 + 5 + 2;
+
+pub const OPENED: usize = 1 + 1 + 1 + 4;
+
+pub const INPUT: usize = 1 + 2 + 4 + COMMAND;
+
+pub const FILM: usize = NAME + LAYOUT + 1 + 1 + SERIAL + BOXES * IMAGE_BOX;
+
+pub const SHELF: usize = 1 + FILMS * FILM;
+
+pub const PICTURES: usize = BOXES * PICTURE;
+
+pub const ENTRY: usize = PICTURES + 2 + 1 + NAME;
+
+pub const QUEUE: usize = 1 + ENTRIES * ENTRY;
+
+pub const CORE: usize = NUMBERS + SESSION + SHELF + QUEUE + OPENED;
+
+pub const RECORDS: usize = CORE + INPUT;
+
+// An entry that is taken: where its ticket, copies and UID stand behind the pictures, and its end.
+pub const TAKEN_TICKET: usize = PICTURES;
+
+pub const TAKEN_COPIES: usize = TAKEN_TICKET + 2;
+
+pub const TAKEN_UID: usize = TAKEN_COPIES + 2;
+
+pub const TAKEN: usize = TAKEN_UID + TEXT;
 
 pub fn serial_at(s: &[u8], p: usize) -> Serial
-    requires { ⌜ p + 4 ≤ length (now s) ⌝ }
+    requires { ⌜ p + serialSize ≤ length (now s) ⌝ }
     ensures { λ r. ⌜ r ≡ serialFormat .read (now (s .entry)) p ⌝ }
 {
     Serial(fields::u32_at(s, p))
 }
 
 pub fn put_serial(s: &mut [u8], p: usize, x: Serial)
-    requires { ⌜ p + 4 ≤ length (now s) ⌝ }
+    requires { ⌜ p + serialSize ≤ length (now s) ⌝ }
     ensures { λ _. ⌜ now (s .exit) ≡ write serialFormat x (now (s .entry)) p ⌝ }
 {
     fields::put_number(s, p, 4, x.0 as u64);
 }
 
 pub fn picture_at(s: &[u8], p: usize) -> Picture
-    requires { ⌜ p + 4 ≤ length (now s) ⌝ }
+    requires { ⌜ p + pictureSize ≤ length (now s) ⌝ }
     ensures { λ r. ⌜ r ≡ pictureFormat .read (now (s .entry)) p ⌝ }
 {
     Picture(fields::u32_at(s, p))
 }
 
 pub fn put_picture(s: &mut [u8], p: usize, x: Picture)
-    requires { ⌜ p + 4 ≤ length (now s) ⌝ }
+    requires { ⌜ p + pictureSize ≤ length (now s) ⌝ }
     ensures { λ _. ⌜ now (s .exit) ≡ write pictureFormat x (now (s .entry)) p ⌝ }
 {
     fields::put_number(s, p, 4, x.0 as u64);
 }
 
 pub fn name_at(s: &[u8], p: usize) -> Name
-    requires { ⌜ p + 69 ≤ length (now s) ⌝ }
+    requires { ⌜ p + nameSize ≤ length (now s) ⌝ }
     ensures { λ r. ⌜ r ≡ nameFormat .read (now (s .entry)) p ⌝ }
 {
     let made = serial_at(s, p);
-    let p1 = p + 4;
+    let p1 = p + SERIAL;
     let used = s[p1];
     let p2 = p1 + 1;
     let text = fields::bytes64_at(s, p2);
@@ -61,12 +111,12 @@ pub fn name_at(s: &[u8], p: usize) -> Name
 }
 
 pub fn put_name(s: &mut [u8], p: usize, x: Name)
-    requires { ⌜ p + 69 ≤ length (now s) ⌝ }
+    requires { ⌜ p + nameSize ≤ length (now s) ⌝ }
     ensures { λ _. ⌜ now (s .exit) ≡ write nameFormat x (now (s .entry)) p ⌝ }
 {
     let made = x.made;
     put_serial(s, p, made);
-    let p1 = p + 4;
+    let p1 = p + SERIAL;
     fields::put_byte(s, p1, x.used);
     let p2 = p1 + 1;
     let text = x.text;
@@ -74,7 +124,7 @@ pub fn put_name(s: &mut [u8], p: usize, x: Name)
 }
 
 pub fn image_box_at(s: &[u8], p: usize) -> ImageBox
-    requires { ⌜ p + 6 ≤ length (now s) ⌝ }
+    requires { ⌜ p + boxSize ≤ length (now s) ⌝ }
     ensures { λ r. ⌜ r ≡ boxFormat .read (now (s .entry)) p ⌝ }
 {
     let position = s[p];
@@ -90,7 +140,7 @@ pub fn image_box_at(s: &[u8], p: usize) -> ImageBox
 }
 
 pub fn put_image_box(s: &mut [u8], p: usize, x: ImageBox)
-    requires { ⌜ p + 6 ≤ length (now s) ⌝ }
+    requires { ⌜ p + boxSize ≤ length (now s) ⌝ }
     ensures { λ _. ⌜ now (s .exit) ≡ write boxFormat x (now (s .entry)) p ⌝ }
 {
     fields::put_byte(s, p, x.position);
@@ -102,26 +152,26 @@ pub fn put_image_box(s: &mut [u8], p: usize, x: ImageBox)
 }
 
 pub fn layout_at(s: &[u8], p: usize) -> Layout
-    requires { ⌜ p + 8 ≤ length (now s) ⌝ }
+    requires { ⌜ p + layoutSize ≤ length (now s) ⌝ }
     ensures { λ r. ⌜ r ≡ layoutFormat .read (now (s .entry)) p ⌝ }
 {
-    let turned = s[p];
+    let kind = s[p];
     let p1 = p + 1;
     let lines = s[p1];
     let p2 = p1 + 1;
     let counts = fields::bytes6_at(s, p2);
     Layout {
-        turned,
+        kind,
         lines,
         counts,
     }
 }
 
 pub fn put_layout(s: &mut [u8], p: usize, x: Layout)
-    requires { ⌜ p + 8 ≤ length (now s) ⌝ }
+    requires { ⌜ p + layoutSize ≤ length (now s) ⌝ }
     ensures { λ _. ⌜ now (s .exit) ≡ write layoutFormat x (now (s .entry)) p ⌝ }
 {
-    fields::put_byte(s, p, x.turned);
+    fields::put_byte(s, p, x.kind);
     let p1 = p + 1;
     fields::put_byte(s, p1, x.lines);
     let p2 = p1 + 1;
@@ -130,13 +180,13 @@ pub fn put_layout(s: &mut [u8], p: usize, x: Layout)
 }
 
 pub fn session_at(s: &[u8], p: usize) -> Session
-    requires { ⌜ p + 139 ≤ length (now s) ⌝ }
+    requires { ⌜ p + sessionSize ≤ length (now s) ⌝ }
     ensures { λ r. ⌜ r ≡ sessionFormat .read (now (s .entry)) p ⌝ }
 {
     let live = s[p];
     let p1 = p + 1;
     let name = name_at(s, p1);
-    let p2 = p1 + 69;
+    let p2 = p1 + NAME;
     let copies = s[p2];
     let p3 = p2 + 1;
     let priority = s[p3];
@@ -161,14 +211,14 @@ pub fn session_at(s: &[u8], p: usize) -> Session
 }
 
 pub fn put_session(s: &mut [u8], p: usize, x: Session)
-    requires { ⌜ p + 139 ≤ length (now s) ⌝ }
+    requires { ⌜ p + sessionSize ≤ length (now s) ⌝ }
     ensures { λ _. ⌜ now (s .exit) ≡ write sessionFormat x (now (s .entry)) p ⌝ }
 {
     fields::put_byte(s, p, x.live);
     let p1 = p + 1;
     let name = x.name;
     put_name(s, p1, name);
-    let p2 = p1 + 69;
+    let p2 = p1 + NAME;
     fields::put_byte(s, p2, x.copies);
     let p3 = p2 + 1;
     fields::put_byte(s, p3, x.priority);
@@ -184,13 +234,13 @@ pub fn put_session(s: &mut [u8], p: usize, x: Session)
 }
 
 pub fn numbers_at(s: &[u8], p: usize) -> Numbers
-    requires { ⌜ p + 53 ≤ length (now s) ⌝ }
+    requires { ⌜ p + numbersSize ≤ length (now s) ⌝ }
     ensures { λ r. ⌜ r ≡ numbersFormat .read (now (s .entry)) p ⌝ }
 {
     let used = s[p];
     let p1 = p + 1;
     let root = fields::bytes40_at(s, p1);
-    let p2 = p1 + 40;
+    let p2 = p1 + ROOT;
     let serial = octets::number_at(s, p2, 5);
     let p3 = p2 + 5;
     let picture = octets::number_at(s, p3, 5);
@@ -206,14 +256,14 @@ pub fn numbers_at(s: &[u8], p: usize) -> Numbers
 }
 
 pub fn put_numbers(s: &mut [u8], p: usize, x: Numbers)
-    requires { ⌜ p + 53 ≤ length (now s) ⌝ }
+    requires { ⌜ p + numbersSize ≤ length (now s) ⌝ }
     ensures { λ _. ⌜ now (s .exit) ≡ write numbersFormat x (now (s .entry)) p ⌝ }
 {
     fields::put_byte(s, p, x.used);
     let p1 = p + 1;
     let root = x.root;
     fields::put_bytes40(s, p1, root);
-    let p2 = p1 + 40;
+    let p2 = p1 + ROOT;
     fields::put_number(s, p2, 5, x.serial);
     let p3 = p2 + 5;
     fields::put_number(s, p3, 5, x.picture);
@@ -222,7 +272,7 @@ pub fn put_numbers(s: &mut [u8], p: usize, x: Numbers)
 }
 
 pub fn opened_at(s: &[u8], p: usize) -> Opened
-    requires { ⌜ p + 7 ≤ length (now s) ⌝ }
+    requires { ⌜ p + openedSize ≤ length (now s) ⌝ }
     ensures { λ r. ⌜ r ≡ openedFormat .read (now (s .entry)) p ⌝ }
 {
     let live = s[p];
@@ -241,7 +291,7 @@ pub fn opened_at(s: &[u8], p: usize) -> Opened
 }
 
 pub fn put_opened(s: &mut [u8], p: usize, x: Opened)
-    requires { ⌜ p + 7 ≤ length (now s) ⌝ }
+    requires { ⌜ p + openedSize ≤ length (now s) ⌝ }
     ensures { λ _. ⌜ now (s .exit) ≡ write openedFormat x (now (s .entry)) p ⌝ }
 {
     fields::put_byte(s, p, x.live);
@@ -254,7 +304,7 @@ pub fn put_opened(s: &mut [u8], p: usize, x: Opened)
 }
 
 pub fn input_at(s: &[u8], p: usize) -> Input
-    requires { ⌜ p + 1031 ≤ length (now s) ⌝ }
+    requires { ⌜ p + inputSize ≤ length (now s) ⌝ }
     ensures { λ r. ⌜ r ≡ inputFormat .read (now (s .entry)) p ⌝ }
 {
     let phase = s[p];
@@ -273,7 +323,7 @@ pub fn input_at(s: &[u8], p: usize) -> Input
 }
 
 pub fn put_input(s: &mut [u8], p: usize, x: Input)
-    requires { ⌜ p + 1031 ≤ length (now s) ⌝ }
+    requires { ⌜ p + inputSize ≤ length (now s) ⌝ }
     ensures { λ _. ⌜ now (s .exit) ≡ write inputFormat x (now (s .entry)) p ⌝ }
 {
     fields::put_byte(s, p, x.phase);
@@ -286,47 +336,47 @@ pub fn put_input(s: &mut [u8], p: usize, x: Input)
     fields::put_bytes1024(s, p3, command);
 }
 
-fn boxes_at(s: &[u8], p: usize) -> [ImageBox; 36]
-    requires { ⌜ p + 216 ≤ length (now s) ⌝ }
-    ensures { λ r. ⌜ r ≡ array 36 boxFormat .read (now (s .entry)) p ⌝ }
+fn boxes_at(s: &[u8], p: usize) -> [ImageBox; BOXES]
+    requires { ⌜ p + mostBoxes * boxSize ≤ length (now s) ⌝ }
+    ensures { λ r. ⌜ r ≡ array mostBoxes boxFormat .read (now (s .entry)) p ⌝ }
 {
-    let mut xs = [image_box_at(s, p); 36];
+    let mut xs = [image_box_at(s, p); BOXES];
     let mut i = 0;
-    while i < 36 {
-        let x = image_box_at(s, p + i * 6);
+    while i < BOXES {
+        let x = image_box_at(s, p + i * IMAGE_BOX);
         xs[i] = x;
         i += 1;
     }
     xs
 }
 
-fn put_boxes(s: &mut [u8], p: usize, a: [ImageBox; 36])
-    requires { ⌜ p + 216 ≤ length (now s) ⌝ }
-    ensures { λ _. ⌜ now (s .exit) ≡ write (array 36 boxFormat) a (now (s .entry)) p ⌝ }
+fn put_boxes(s: &mut [u8], p: usize, a: [ImageBox; BOXES])
+    requires { ⌜ p + mostBoxes * boxSize ≤ length (now s) ⌝ }
+    ensures { λ _. ⌜ now (s .exit) ≡ write (array mostBoxes boxFormat) a (now (s .entry)) p ⌝ }
 {
     let xs = a;
     let mut i = 0;
-    while i < 36 {
+    while i < BOXES {
         let x = xs[i];
-        put_image_box(s, p + i * 6, x);
+        put_image_box(s, p + i * IMAGE_BOX, x);
         i += 1;
     }
 }
 
 pub fn film_at(s: &[u8], p: usize) -> Film
-    requires { ⌜ p + 299 ≤ length (now s) ⌝ }
+    requires { ⌜ p + filmSize ≤ length (now s) ⌝ }
     ensures { λ r. ⌜ r ≡ filmFormat .read (now (s .entry)) p ⌝ }
 {
     let name = name_at(s, p);
-    let p1 = p + 69;
+    let p1 = p + NAME;
     let layout = layout_at(s, p1);
-    let p2 = p1 + 8;
+    let p2 = p1 + LAYOUT;
     let orientation = s[p2];
     let p3 = p2 + 1;
     let magnification = s[p3];
     let p4 = p3 + 1;
     let first = serial_at(s, p4);
-    let p5 = p4 + 4;
+    let p5 = p4 + SERIAL;
     let boxes = boxes_at(s, p5);
     Film {
         name,
@@ -339,57 +389,65 @@ pub fn film_at(s: &[u8], p: usize) -> Film
 }
 
 pub fn put_film(s: &mut [u8], p: usize, x: Film)
-    requires { ⌜ p + 299 ≤ length (now s) ⌝ }
+    requires { ⌜ p + filmSize ≤ length (now s) ⌝ }
     ensures { λ _. ⌜ now (s .exit) ≡ write filmFormat x (now (s .entry)) p ⌝ }
 {
     let name = x.name;
     put_name(s, p, name);
-    let p1 = p + 69;
+    let p1 = p + NAME;
     let layout = x.layout;
     put_layout(s, p1, layout);
-    let p2 = p1 + 8;
+    let p2 = p1 + LAYOUT;
     fields::put_byte(s, p2, x.orientation);
     let p3 = p2 + 1;
     fields::put_byte(s, p3, x.magnification);
     let p4 = p3 + 1;
     let first = x.first;
     put_serial(s, p4, first);
-    let p5 = p4 + 4;
+    let p5 = p4 + SERIAL;
     let boxes = x.boxes;
     put_boxes(s, p5, boxes);
 }
 
-fn films_at(s: &[u8], p: usize) -> [Film; 8]
-    requires { ⌜ p + 2392 ≤ length (now s) ⌝ }
-    ensures { λ r. ⌜ r ≡ array 8 filmFormat .read (now (s .entry)) p ⌝ }
+// Film i of those that stand from p on.
+fn nth_film(s: &[u8], p: usize, i: usize) -> Film
+    requires { ⌜ p + (i + 1) * filmSize ≤ length (now s) ⌝ }
+    ensures { λ r. ⌜ r ≡ filmFormat .read (now (s .entry)) (p + i * filmFormat .size) ⌝ }
+{
+    film_at(s, p + i * FILM)
+}
+
+fn films_at(s: &[u8], p: usize) -> [Film; FILMS]
+    requires { ⌜ p + mostFilms * filmSize ≤ length (now s) ⌝ }
+    ensures { λ r. ⌜ r ≡ array mostFilms filmFormat .read (now (s .entry)) p ⌝ }
 {
     [
-        film_at(s, p),
-        film_at(s, p + 299),
-        film_at(s, p + 598),
-        film_at(s, p + 897),
-        film_at(s, p + 1196),
-        film_at(s, p + 1495),
-        film_at(s, p + 1794),
-        film_at(s, p + 2093),
+        nth_film(s, p, 0),
+        nth_film(s, p, 1),
+        nth_film(s, p, 2),
+        nth_film(s, p, 3),
+        nth_film(s, p, 4),
+        nth_film(s, p, 5),
+        nth_film(s, p, 6),
+        nth_film(s, p, 7),
     ]
 }
 
-fn put_films(s: &mut [u8], p: usize, a: [Film; 8])
-    requires { ⌜ p + 2392 ≤ length (now s) ⌝ }
-    ensures { λ _. ⌜ now (s .exit) ≡ write (array 8 filmFormat) a (now (s .entry)) p ⌝ }
+fn put_films(s: &mut [u8], p: usize, a: [Film; FILMS])
+    requires { ⌜ p + mostFilms * filmSize ≤ length (now s) ⌝ }
+    ensures { λ _. ⌜ now (s .exit) ≡ write (array mostFilms filmFormat) a (now (s .entry)) p ⌝ }
 {
     let xs = a;
     let mut i = 0;
-    while i < 8 {
+    while i < FILMS {
         let x = xs[i];
-        put_film(s, p + i * 299, x);
+        put_film(s, p + i * FILM, x);
         i += 1;
     }
 }
 
 pub fn shelf_at(s: &[u8], p: usize) -> Shelf
-    requires { ⌜ p + 2393 ≤ length (now s) ⌝ }
+    requires { ⌜ p + shelfSize ≤ length (now s) ⌝ }
     ensures { λ r. ⌜ r ≡ shelfFormat .read (now (s .entry)) p ⌝ }
 {
     let count = s[p];
@@ -399,7 +457,7 @@ pub fn shelf_at(s: &[u8], p: usize) -> Shelf
 }
 
 pub fn put_shelf(s: &mut [u8], p: usize, x: Shelf)
-    requires { ⌜ p + 2393 ≤ length (now s) ⌝ }
+    requires { ⌜ p + shelfSize ≤ length (now s) ⌝ }
     ensures { λ _. ⌜ now (s .exit) ≡ write shelfFormat x (now (s .entry)) p ⌝ }
 {
     fields::put_byte(s, p, x.count);
@@ -408,39 +466,39 @@ pub fn put_shelf(s: &mut [u8], p: usize, x: Shelf)
     put_films(s, p1, films);
 }
 
-fn pictures_at(s: &[u8], p: usize) -> [Picture; 36]
-    requires { ⌜ p + 144 ≤ length (now s) ⌝ }
-    ensures { λ r. ⌜ r ≡ array 36 pictureFormat .read (now (s .entry)) p ⌝ }
+fn pictures_at(s: &[u8], p: usize) -> [Picture; BOXES]
+    requires { ⌜ p + mostBoxes * pictureSize ≤ length (now s) ⌝ }
+    ensures { λ r. ⌜ r ≡ array mostBoxes pictureFormat .read (now (s .entry)) p ⌝ }
 {
-    let mut xs = [picture_at(s, p); 36];
+    let mut xs = [picture_at(s, p); BOXES];
     let mut i = 0;
-    while i < 36 {
-        let x = picture_at(s, p + i * 4);
+    while i < BOXES {
+        let x = picture_at(s, p + i * PICTURE);
         xs[i] = x;
         i += 1;
     }
     xs
 }
 
-pub fn put_pictures(s: &mut [u8], p: usize, a: [Picture; 36])
-    requires { ⌜ p + 144 ≤ length (now s) ⌝ }
-    ensures { λ _. ⌜ now (s .exit) ≡ write (array 36 pictureFormat) a (now (s .entry)) p ⌝ }
+pub fn put_pictures(s: &mut [u8], p: usize, a: [Picture; BOXES])
+    requires { ⌜ p + mostBoxes * pictureSize ≤ length (now s) ⌝ }
+    ensures { λ _. ⌜ now (s .exit) ≡ write (array mostBoxes pictureFormat) a (now (s .entry)) p ⌝ }
 {
     let xs = a;
     let mut i = 0;
-    while i < 36 {
+    while i < BOXES {
         let x = xs[i];
-        put_picture(s, p + i * 4, x);
+        put_picture(s, p + i * PICTURE, x);
         i += 1;
     }
 }
 
 pub fn entry_at(s: &[u8], p: usize) -> Entry
-    requires { ⌜ p + 216 ≤ length (now s) ⌝ }
+    requires { ⌜ p + entrySize ≤ length (now s) ⌝ }
     ensures { λ r. ⌜ r ≡ entryFormat .read (now (s .entry)) p ⌝ }
 {
     let pictures = pictures_at(s, p);
-    let p1 = p + 144;
+    let p1 = p + PICTURES;
     let ticket = fields::u16_at(s, p1);
     let p2 = p1 + 2;
     let copies = s[p2];
@@ -455,12 +513,12 @@ pub fn entry_at(s: &[u8], p: usize) -> Entry
 }
 
 pub fn put_entry(s: &mut [u8], p: usize, x: Entry)
-    requires { ⌜ p + 216 ≤ length (now s) ⌝ }
+    requires { ⌜ p + entrySize ≤ length (now s) ⌝ }
     ensures { λ _. ⌜ now (s .exit) ≡ write entryFormat x (now (s .entry)) p ⌝ }
 {
     let pictures = x.pictures;
     put_pictures(s, p, pictures);
-    let p1 = p + 144;
+    let p1 = p + PICTURES;
     fields::put_number(s, p1, 2, x.ticket as u64);
     let p2 = p1 + 2;
     fields::put_byte(s, p2, x.copies);
@@ -469,45 +527,53 @@ pub fn put_entry(s: &mut [u8], p: usize, x: Entry)
     put_name(s, p3, film);
 }
 
-fn entries_at(s: &[u8], p: usize) -> [Entry; 16]
-    requires { ⌜ p + 3456 ≤ length (now s) ⌝ }
-    ensures { λ r. ⌜ r ≡ array 16 entryFormat .read (now (s .entry)) p ⌝ }
+// Entry i of those that stand from p on.
+fn nth_entry(s: &[u8], p: usize, i: usize) -> Entry
+    requires { ⌜ p + (i + 1) * entrySize ≤ length (now s) ⌝ }
+    ensures { λ r. ⌜ r ≡ entryFormat .read (now (s .entry)) (p + i * entryFormat .size) ⌝ }
+{
+    entry_at(s, p + i * ENTRY)
+}
+
+fn entries_at(s: &[u8], p: usize) -> [Entry; ENTRIES]
+    requires { ⌜ p + mostEntries * entrySize ≤ length (now s) ⌝ }
+    ensures { λ r. ⌜ r ≡ array mostEntries entryFormat .read (now (s .entry)) p ⌝ }
 {
     [
-        entry_at(s, p),
-        entry_at(s, p + 216),
-        entry_at(s, p + 432),
-        entry_at(s, p + 648),
-        entry_at(s, p + 864),
-        entry_at(s, p + 1080),
-        entry_at(s, p + 1296),
-        entry_at(s, p + 1512),
-        entry_at(s, p + 1728),
-        entry_at(s, p + 1944),
-        entry_at(s, p + 2160),
-        entry_at(s, p + 2376),
-        entry_at(s, p + 2592),
-        entry_at(s, p + 2808),
-        entry_at(s, p + 3024),
-        entry_at(s, p + 3240),
+        nth_entry(s, p, 0),
+        nth_entry(s, p, 1),
+        nth_entry(s, p, 2),
+        nth_entry(s, p, 3),
+        nth_entry(s, p, 4),
+        nth_entry(s, p, 5),
+        nth_entry(s, p, 6),
+        nth_entry(s, p, 7),
+        nth_entry(s, p, 8),
+        nth_entry(s, p, 9),
+        nth_entry(s, p, 10),
+        nth_entry(s, p, 11),
+        nth_entry(s, p, 12),
+        nth_entry(s, p, 13),
+        nth_entry(s, p, 14),
+        nth_entry(s, p, 15),
     ]
 }
 
-fn put_entries(s: &mut [u8], p: usize, a: [Entry; 16])
-    requires { ⌜ p + 3456 ≤ length (now s) ⌝ }
-    ensures { λ _. ⌜ now (s .exit) ≡ write (array 16 entryFormat) a (now (s .entry)) p ⌝ }
+fn put_entries(s: &mut [u8], p: usize, a: [Entry; ENTRIES])
+    requires { ⌜ p + mostEntries * entrySize ≤ length (now s) ⌝ }
+    ensures { λ _. ⌜ now (s .exit) ≡ write (array mostEntries entryFormat) a (now (s .entry)) p ⌝ }
 {
     let xs = a;
     let mut i = 0;
-    while i < 16 {
+    while i < ENTRIES {
         let x = xs[i];
-        put_entry(s, p + i * 216, x);
+        put_entry(s, p + i * ENTRY, x);
         i += 1;
     }
 }
 
 pub fn queue_at(s: &[u8], p: usize) -> Queue
-    requires { ⌜ p + 3457 ≤ length (now s) ⌝ }
+    requires { ⌜ p + queueSize ≤ length (now s) ⌝ }
     ensures { λ r. ⌜ r ≡ queueFormat .read (now (s .entry)) p ⌝ }
 {
     let count = s[p];
@@ -517,7 +583,7 @@ pub fn queue_at(s: &[u8], p: usize) -> Queue
 }
 
 pub fn put_queue(s: &mut [u8], p: usize, x: Queue)
-    requires { ⌜ p + 3457 ≤ length (now s) ⌝ }
+    requires { ⌜ p + queueSize ≤ length (now s) ⌝ }
     ensures { λ _. ⌜ now (s .exit) ≡ write queueFormat x (now (s .entry)) p ⌝ }
 {
     fields::put_byte(s, p, x.count);
@@ -527,17 +593,17 @@ pub fn put_queue(s: &mut [u8], p: usize, x: Queue)
 }
 
 pub fn core_at(s: &[u8], p: usize) -> Core
-    requires { ⌜ p + 6049 ≤ length (now s) ⌝ }
+    requires { ⌜ p + coreSize ≤ length (now s) ⌝ }
     ensures { λ r. ⌜ r ≡ coreFormat .read (now (s .entry)) p ⌝ }
 {
     let numbers = numbers_at(s, p);
-    let p1 = p + 53;
+    let p1 = p + NUMBERS;
     let session = session_at(s, p1);
-    let p2 = p1 + 139;
+    let p2 = p1 + SESSION;
     let shelf = shelf_at(s, p2);
-    let p3 = p2 + 2393;
+    let p3 = p2 + SHELF;
     let queue = queue_at(s, p3);
-    let p4 = p3 + 3457;
+    let p4 = p3 + QUEUE;
     let opened = opened_at(s, p4);
     Core {
         numbers,
@@ -549,42 +615,42 @@ pub fn core_at(s: &[u8], p: usize) -> Core
 }
 
 pub fn put_core(s: &mut [u8], p: usize, x: Core)
-    requires { ⌜ p + 6049 ≤ length (now s) ⌝ }
+    requires { ⌜ p + coreSize ≤ length (now s) ⌝ }
     ensures { λ _. ⌜ now (s .exit) ≡ write coreFormat x (now (s .entry)) p ⌝ }
 {
     let numbers = x.numbers;
     put_numbers(s, p, numbers);
-    let p1 = p + 53;
+    let p1 = p + NUMBERS;
     let session = x.session;
     put_session(s, p1, session);
-    let p2 = p1 + 139;
+    let p2 = p1 + SESSION;
     let shelf = x.shelf;
     put_shelf(s, p2, shelf);
-    let p3 = p2 + 2393;
+    let p3 = p2 + SHELF;
     let queue = x.queue;
     put_queue(s, p3, queue);
-    let p4 = p3 + 3457;
+    let p4 = p3 + QUEUE;
     let opened = x.opened;
     put_opened(s, p4, opened);
 }
 
 pub fn state_at(s: &[u8], p: usize) -> State
-    requires { ⌜ p + 7080 ≤ length (now s) ⌝ }
+    requires { ⌜ p + recordsSize ≤ length (now s) ⌝ }
     ensures { λ r. ⌜ r ≡ stateFormat .read (now (s .entry)) p ⌝ }
 {
     let core = core_at(s, p);
-    let p1 = p + 6049;
+    let p1 = p + CORE;
     let input = input_at(s, p1);
     State { core, input }
 }
 
 pub fn put_state(s: &mut [u8], p: usize, x: State)
-    requires { ⌜ p + 7080 ≤ length (now s) ⌝ }
+    requires { ⌜ p + recordsSize ≤ length (now s) ⌝ }
     ensures { λ _. ⌜ now (s .exit) ≡ write stateFormat x (now (s .entry)) p ⌝ }
 {
     let core = x.core;
     put_core(s, p, core);
-    let p1 = p + 6049;
+    let p1 = p + CORE;
     let input = x.input;
     put_input(s, p1, input);
 }

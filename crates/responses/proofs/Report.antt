@@ -1,4 +1,4 @@
--- The report's numbers, laid one after the other, are the report of a reply with its note.
+-- The report's numbers, laid one after the other, are the report.
 -- Assumes nothing.
 use Prim.Native.Nat.{ℕ, _≤_}
 use mathlib.Core.Path.{_≡_, refl}
@@ -7,8 +7,6 @@ use native.Mathlib.Omega.{arith}
 use lib.ListN.{length}
 use Rattle.octets.specs.Octets.{octets, laid}
 use Rattle.writing.proofs.Chain.{laid-next}
-use Rattle.rules.specs.Responses.{Reply, noNote, filmsQueued, pictureAt}
-use Rattle.rules.specs.Outcomes.{reportBytes}
 use Rattle.responses.specs.Parts.{reportBy}
 
 module _ (status command size kind first second third : ℕ) where
@@ -30,16 +28,3 @@ module _ (status command size kind first second third : ℕ) where
       (laid-next s s₃ s₄ c (octets 2 kind) 0 6 (omega arith) refl
       (laid-next s s₂ s₃ b (octets 2 size) 0 4 (omega arith) refl
       (laid-next s s₁ s₂ a (octets 2 command) 0 2 (omega arith) refl e₁ e₂) e₃) e₄) e₅) e₆) e₇
-
-module _ (r : Reply) where
-  pub report-plain : r .note ≡ noNote → reportBytes r ≡ reportBy (r .status) (length (r .command)) (length (r .dataSet)) 0 0 0 0
-  unfolding reportBytes octets reportBy
-  report-plain e = rw e
-
-  pub report-queued : (n : ℕ) → r .note ≡ filmsQueued n → reportBytes r ≡ reportBy (r .status) (length (r .command)) (length (r .dataSet)) 1 n 0 0
-  unfolding reportBytes octets reportBy
-  report-queued n e = rw e
-
-  pub report-picture : (n place size : ℕ) → r .note ≡ pictureAt n place size → reportBytes r ≡ reportBy (r .status) (length (r .command)) (length (r .dataSet)) 2 n place size
-  unfolding reportBytes reportBy
-  report-picture n place size e = rw e

@@ -12,6 +12,7 @@ use borrow.Author.Tests.{eq-eqb, ne-eqb}
 use Rattle.choice.specs.Pick.{pick, not}
 use Rattle.octets.specs.Octets.{octets, laid}
 use Rattle.tags.specs.Table.{UI, UL, US}
+use Rattle.headers.specs.declared.Syntax.the-variants.{Implicit}
 use Rattle.writing.specs.Tree.{Elements}
 use Rattle.writing.specs.Bytes.{headerSize, element, written}
 use Rattle.writing.proofs.Sizes.{element-length, number-length}
@@ -24,15 +25,15 @@ use Rattle.responses.proofs.Under.{laid-under}
 
 pub number-size : (tag n : ℕ) → length (numberBytes tag n) ≡ 10
 unfolding headerSize
-number-size tag n = number-length false tag US 2 n refl
+number-size tag n = number-length Implicit tag US 2 n refl
 
-pub group-length-size : (n : ℕ) → length (element false 0x0000_0000 UL (octets 4 n)) ≡ 12
+pub group-length-size : (n : ℕ) → length (element Implicit 0x0000_0000 UL (octets 4 n)) ≡ 12
 unfolding headerSize
-group-length-size n = number-length false 0x0000_0000 UL 4 n refl
+group-length-size n = number-length Implicit 0x0000_0000 UL 4 n refl
 
-pub uid-size : (tag : ℕ) (uid : List ℕ) → length uid ≤ 64 → length (element false tag UI uid) ≤ 72
+pub uid-size : (tag : ℕ) (uid : List ℕ) → length uid ≤ 64 → length (element Implicit tag UI uid) ≤ 72
 unfolding headerSize
-uid-size tag uid h = omega (arith, element-length false tag UI uid)
+uid-size tag uid h = omega (arith, element-length Implicit tag UI uid)
 
 -- "field plus 8000H", in two bytes
 low-byte : (q a : ℕ) → a < 256 → (256 * q + a) % 256 ≡ a % 256
@@ -52,7 +53,7 @@ pub uid-none : (tag : ℕ) (uid : List ℕ) → length uid ≡ 0 → uidBytes ta
 unfolding uidBytes
 uid-none tag uid e = rw (eq-eqb _ _ e)
 
-pub uid-some : (tag : ℕ) (uid : List ℕ) → (length uid ≡ 0 → ⊥) → uidBytes tag uid ≡ element false tag UI uid
+pub uid-some : (tag : ℕ) (uid : List ℕ) → (length uid ≡ 0 → ⊥) → uidBytes tag uid ≡ element Implicit tag UI uid
 unfolding uidBytes
 uid-some tag uid e = rw (ne-eqb _ _ e)
 
@@ -70,16 +71,16 @@ action-size true kind = omega (arith, number-size 0x0000_1008 kind)
 action-size false kind = omega arith
 
 uid-told : (tag : ℕ) (uid : List ℕ) (more : Elements) (none? : Bool)
-    → written false (uidElement tag (pick none? none (some uid)) more) ≡ pick none? [] (element false tag UI uid) ++ written false more
+    → written Implicit (uidElement tag (pick none? none (some uid)) more) ≡ pick none? [] (element Implicit tag UI uid) ++ written Implicit more
 unfolding written
 uid-told tag uid more true = refl
 uid-told tag uid more false = refl
 
-uid-written : (tag : ℕ) (uid : List ℕ) (more : Elements) → written false (uidElement tag (given uid) more) ≡ uidBytes tag uid ++ written false more
+uid-written : (tag : ℕ) (uid : List ℕ) (more : Elements) → written Implicit (uidElement tag (given uid) more) ≡ uidBytes tag uid ++ written Implicit more
 unfolding uidBytes
 uid-written tag uid more = uid-told tag uid more (eqb (length uid) 0)
 
-action-written : (acts : Bool) (kind : ℕ) → written false (actionElement (actionBy acts kind)) ≡ actionBytes acts kind
+action-written : (acts : Bool) (kind : ℕ) → written Implicit (actionElement (actionBy acts kind)) ≡ actionBytes acts kind
 unfolding written actionBytes
 action-written true kind = append-nil (numberBytes 0x0000_1008 kind)
 action-written false kind = refl
@@ -92,7 +93,7 @@ data-shown says status d true e = rw e
 data-shown says status d false e = rw e
 
 module _ (class : List ℕ) (field message : ℕ) (withData : Bool) (status : ℕ) (instance : List ℕ) (acts : Bool) (kind : ℕ) where
-  said : written false (responseElements (saysBy class field message instance acts kind) status (dataShown withData))
+  said : written Implicit (responseElements (saysBy class field message instance acts kind) status (dataShown withData))
       ≡ saidFirst class field message ++ saidThen withData status instance acts kind
   unfolding written responseElements saysBy saidFirst saidThen
   said = rw (uid-written, uid-written, action-written) (simp append-assoc)
@@ -100,9 +101,9 @@ module _ (class : List ℕ) (field message : ℕ) (withData : Bool) (status : �
   pub response-laid : (s m n o : List ℕ) (p stop : ℕ) → 256 ≤ length s
       → m ≡ laid s 12 (saidFirst class field message) → p ≡ 12 + length (saidFirst class field message) → p ≤ 104
       → n ≡ laid m p (saidThen withData status instance acts kind) → stop ≡ p + length (saidThen withData status instance acts kind) → stop ≤ p + 102
-      → o ≡ laid n 0 (element false 0x0000_0000 UL (octets 4 (stop - 12)))
-      → (o ≡ laid s 0 (written false (responseTree (saysBy class field message instance acts kind) status (dataShown withData))))
-      × (stop ≡ length (written false (responseTree (saysBy class field message instance acts kind) status (dataShown withData))))
+      → o ≡ laid n 0 (element Implicit 0x0000_0000 UL (octets 4 (stop - 12)))
+      → (o ≡ laid s 0 (written Implicit (responseTree (saysBy class field message instance acts kind) status (dataShown withData))))
+      × (stop ≡ length (written Implicit (responseTree (saysBy class field message instance acts kind) status (dataShown withData))))
   unfolding written responseTree
   response-laid s m n o p stop h em ep bp en es bs eo =
       let first = saidFirst class field message in
@@ -111,7 +112,7 @@ module _ (class : List ℕ) (field message : ℕ) (withData : Bool) (status : �
       let size : stop - 12 ≡ length (first ++ then) = omega arith in
       let l = group-length-size (length (first ++ then)) in
       rw said (
-        laid-under s n o (element false 0x0000_0000 UL (octets 4 (length (first ++ then)))) (first ++ then) 0 12 (omega arith) (omega arith)
+        laid-under s n o (element Implicit 0x0000_0000 UL (octets 4 (length (first ++ then)))) (first ++ then) 0 12 (omega arith) (omega arith)
             (laid-next s m n first then 12 p (omega arith) ep em en) (rw (← size) eo),
-        rw (length-append (element false 0x0000_0000 UL (octets 4 (length (first ++ then)))) (first ++ then)) (omega arith),
+        rw (length-append (element Implicit 0x0000_0000 UL (octets 4 (length (first ++ then)))) (first ++ then)) (omega arith),
       )

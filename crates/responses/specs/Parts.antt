@@ -9,6 +9,8 @@ use Rattle.choice.specs.Pick.{pick}
 use Rattle.octets.specs.Octets.{octets}
 use Rattle.tags.specs.Table.{UI, US}
 use Rattle.uids.specs.Uids.{made}
+use Rattle.headers.specs.declared.Syntax.{Syntax}
+use Rattle.headers.specs.declared.Syntax.the-variants.{Implicit}
 use Rattle.writing.specs.Tree.{Elements, noElements, value}
 use Rattle.writing.specs.Bytes.{itemHeader, element, written, writtenItems}
 use Rattle.rules.specs.Lists.{from}
@@ -40,10 +42,10 @@ dataShown false = []
 -- The elements of a response, as bytes.
 
 abbrev pub numberBytes : ℕ → ℕ → List ℕ
-numberBytes tag n = element false tag US (octets 2 n)
+numberBytes tag n = element Implicit tag US (octets 2 n)
 
 unfoldable pub uidBytes : ℕ → List ℕ → List ℕ
-uidBytes tag uid = pick (eqb (length uid) 0) [] (element false tag UI uid)
+uidBytes tag uid = pick (eqb (length uid) 0) [] (element Implicit tag UI uid)
 
 unfoldable pub actionBytes : Bool → ℕ → List ℕ
 actionBytes acts kind = pick acts (numberBytes 0x0000_1008 kind) []
@@ -64,11 +66,11 @@ saidThen withData status instance acts kind =
 abbrev pub boxTree : List ℕ → Elements
 boxTree uid = value 0x0008_1150 UI boxClass (value 0x0008_1155 UI uid noElements)
 
-unfoldable pub boxBytes : Bool → List ℕ → List ℕ
-boxBytes explicit uid = itemHeader (length (written explicit (boxTree uid))) ++ written explicit (boxTree uid)
+unfoldable pub boxBytes : Syntax → List ℕ → List ℕ
+boxBytes syntax uid = itemHeader (length (written syntax (boxTree uid))) ++ written syntax (boxTree uid)
 
-unfoldable pub boxesBytes : Bool → List ℕ → ℕ → ℕ → List ℕ
-boxesBytes explicit root first count = writtenItems explicit (boxItems (map (made root) (from first count)))
+unfoldable pub boxesBytes : Syntax → List ℕ → ℕ → ℕ → List ℕ
+boxesBytes syntax root first count = writtenItems syntax (boxItems (map (made root) (from first count)))
 
 -- The report: status, lengths of command and data set, and a note's kind with its three numbers.
 unfoldable pub reportBy : ℕ → ℕ → ℕ → ℕ → ℕ → ℕ → ℕ → List ℕ

@@ -1,14 +1,14 @@
 // Responses, the created film's data set and the report, written into lent buffers.
-use headings::put_header;
-use headings::put_item;
+use headers::Syntax;
 use making::put_made;
 use octets::put_number;
 use putting::put_element;
+use putting::put_header;
+use putting::put_item;
 use putting::put_ul;
 use putting::put_us;
 use tags::SQ;
 use tags::UI;
-ghost use mathlib.Core.Bool.{false};
 ghost use mathlib.Core.List.{map};
 ghost use mathlib.Core.Path.{_≡_};
 ghost use Prim.Native.Nat.{_+_, _*_, _≤_};
@@ -16,6 +16,7 @@ ghost use lib.ListN.{length};
 ghost use Rattle.octets.specs.Octets.{octets, laid};
 ghost use Rattle.uids.specs.Uids.{made};
 ghost use Rattle.tags.specs.Table.{SQ};
+ghost use Rattle.headers.specs.declared.Syntax.the-variants.{Implicit};
 ghost use Rattle.writing.specs.Bytes.{headerSize, written};
 ghost use Rattle.rules.specs.Lists.{from};
 ghost use Rattle.rules.specs.Responses.{dataSetType, responseTree, filmTree};
@@ -48,7 +49,7 @@ fn put_short(out: &mut [u8], at: usize, tag: usize, x: u16) -> usize
     requires { ⌜ at + 10 ≤ length (now out) ⌝ }
     ensures { λ r. ⌜ (now (out .exit) ≡ laid (now (out .entry)) at (numberBytes tag x)) × (r ≡ at + 10) ⌝ }
 {
-    put_us(out, at, false, tag, x)
+    put_us(out, at, Syntax::Implicit, tag, x)
 }
 
 // A UID in a command set, an empty one left out: the place after it.
@@ -59,7 +60,7 @@ fn put_uid(out: &mut [u8], at: usize, tag: usize, uid: &[u8]) -> usize
     if uid.len() == 0 {
         return at;
     }
-    put_element(out, at, false, tag, UI as usize, uid)
+    put_element(out, at, Syntax::Implicit, tag, UI as usize, uid)
 }
 
 // The action type, where there is one: the place after it.
@@ -132,45 +133,38 @@ pub fn put_response(
     kind: u16,
 ) -> usize
     requires { ⌜ (256 ≤ length (now out)) × (length (now class) ≤ 64) × (length (now instance) ≤ 64) ⌝ }
-    ensures { λ r. ⌜ (now (out .exit) ≡ laid (now (out .entry)) 0 (written false (responseTree (saysBy (now (class .entry)) field message (now (instance .entry)) acts kind) status (dataShown with_data)))) × (r ≡ length (written false (responseTree (saysBy (now (class .entry)) field message (now (instance .entry)) acts kind) status (dataShown with_data)))) ⌝ }
+    ensures { λ r. ⌜ (now (out .exit) ≡ laid (now (out .entry)) 0 (written Implicit (responseTree (saysBy (now (class .entry)) field message (now (instance .entry)) acts kind) status (dataShown with_data)))) × (r ≡ length (written Implicit (responseTree (saysBy (now (class .entry)) field message (now (instance .entry)) acts kind) status (dataShown with_data)))) ⌝ }
 {
     let p = put_said_first(out, class, field, message);
     let stop = put_said_then(out, p, with_data, status, instance, acts, kind);
-    put_ul(out, 0, false, GROUP_LENGTH, (stop - 12) as u32);
+    put_ul(out, 0, Syntax::Implicit, GROUP_LENGTH, (stop - 12) as u32);
     stop
 }
 
 // An item's list for the image box of a serial, from a place on: the place after it.
-fn put_box_list(out: &mut [u8], at: usize, explicit: bool, root: &[u8], serial: u32) -> usize
+fn put_box_list(out: &mut [u8], at: usize, syntax: Syntax, root: &[u8], serial: u32) -> usize
     requires { ⌜ (at + 90 ≤ length (now out)) × (length (now root) ≤ 40) ⌝ }
-    ensures { λ r. ⌜ (now (out .exit) ≡ laid (now (out .entry)) at (written explicit (boxTree (made (now (root .entry)) serial)))) × (r ≡ at + length (written explicit (boxTree (made (now (root .entry)) serial)))) × (r ≤ at + 90) ⌝ }
+    ensures { λ r. ⌜ (now (out .exit) ≡ laid (now (out .entry)) at (written syntax (boxTree (made (now (root .entry)) serial)))) × (r ≡ at + length (written syntax (boxTree (made (now (root .entry)) serial)))) × (r ≤ at + 90) ⌝ }
 {
     let mut uid = [0u8; 51];
     let n = put_made(&mut uid, 0, root, serial);
     let p = put_element(
         out,
         at,
-        explicit,
+        syntax,
         REFERENCED_CLASS,
         UI as usize,
         b"1.2.840.10008.5.1.1.4",
     );
-    put_element(
-        out,
-        p,
-        explicit,
-        REFERENCED_INSTANCE,
-        UI as usize,
-        &uid[0..n],
-    )
+    put_element(out, p, syntax, REFERENCED_INSTANCE, UI as usize, &uid[0..n])
 }
 
 // The item of an image box from a place on: the place after it. Its header goes in last, since it tells the list's length.
-fn put_box(out: &mut [u8], at: usize, explicit: bool, root: &[u8], serial: u32) -> usize
+fn put_box(out: &mut [u8], at: usize, syntax: Syntax, root: &[u8], serial: u32) -> usize
     requires { ⌜ (at + 98 ≤ length (now out)) × (length (now root) ≤ 40) ⌝ }
-    ensures { λ r. ⌜ (now (out .exit) ≡ laid (now (out .entry)) at (boxBytes explicit (made (now (root .entry)) serial))) × (r ≡ at + length (boxBytes explicit (made (now (root .entry)) serial))) × (r ≤ at + 98) ⌝ }
+    ensures { λ r. ⌜ (now (out .exit) ≡ laid (now (out .entry)) at (boxBytes syntax (made (now (root .entry)) serial))) × (r ≡ at + length (boxBytes syntax (made (now (root .entry)) serial))) × (r ≤ at + 98) ⌝ }
 {
-    let stop = put_box_list(out, at + 8, explicit, root, serial);
+    let stop = put_box_list(out, at + 8, syntax, root, serial);
     put_item(out, at, stop - at - 8);
     stop
 }
@@ -179,47 +173,47 @@ fn put_box(out: &mut [u8], at: usize, explicit: bool, root: &[u8], serial: u32) 
 fn put_boxes(
     out: &mut [u8],
     at: usize,
-    explicit: bool,
+    syntax: Syntax,
     root: &[u8],
     first: u32,
     count: usize,
 ) -> usize
     requires { ⌜ (at + 98 * count ≤ length (now out)) × (length (now root) ≤ 40) × (count ≤ 36) × (first + count ≤ 4294967296) ⌝ }
-    ensures { λ r. ⌜ (now (out .exit) ≡ laid (now (out .entry)) at (boxesBytes explicit (now (root .entry)) first count)) × (r ≡ at + length (boxesBytes explicit (now (root .entry)) first count)) × (r ≤ at + 98 * count) ⌝ }
+    ensures { λ r. ⌜ (now (out .exit) ≡ laid (now (out .entry)) at (boxesBytes syntax (now (root .entry)) first count)) × (r ≡ at + length (boxesBytes syntax (now (root .entry)) first count)) × (r ≤ at + 98 * count) ⌝ }
 {
     let mut p = at;
     let mut i = 0;
     while i < count {
-        p = put_box(out, p, explicit, root, first + i as u32);
+        p = put_box(out, p, syntax, root, first + i as u32);
         i += 1;
     }
     p
 }
 
 // The size of a sequence's header.
-fn sequence_header(explicit: bool) -> usize
-    ensures { λ r. ⌜ (r ≡ headerSize explicit SQ) × (r ≤ 12) ⌝ }
+fn sequence_header(syntax: Syntax) -> usize
+    ensures { λ r. ⌜ (r ≡ headerSize syntax SQ) × (r ≤ 12) ⌝ }
 {
-    if explicit {
-        return 12;
+    match syntax {
+        Syntax::Implicit => 8,
+        Syntax::Explicit => 12,
     }
-    8
 }
 
 // The created film's data set: an item for each box in order. The sequence's header goes in last, since it tells the items' length.
 pub fn put_film_boxes(
     out: &mut [u8],
-    explicit: bool,
+    syntax: Syntax,
     root: &[u8],
     first: u32,
     count: usize,
 ) -> usize
     requires { ⌜ (8192 ≤ length (now out)) × (length (now root) ≤ 40) × (count ≤ 36) × (first + count ≤ 4294967296) ⌝ }
-    ensures { λ r. ⌜ (now (out .exit) ≡ laid (now (out .entry)) 0 (written explicit (filmTree (map (made (now (root .entry))) (from first count))))) × (r ≡ length (written explicit (filmTree (map (made (now (root .entry))) (from first count))))) ⌝ }
+    ensures { λ r. ⌜ (now (out .exit) ≡ laid (now (out .entry)) 0 (written syntax (filmTree (map (made (now (root .entry))) (from first count))))) × (r ≡ length (written syntax (filmTree (map (made (now (root .entry))) (from first count))))) ⌝ }
 {
-    let start = sequence_header(explicit);
-    let stop = put_boxes(out, start, explicit, root, first, count);
-    put_header(out, 0, explicit, BOX_SEQUENCE, SQ as usize, stop - start);
+    let start = sequence_header(syntax);
+    let stop = put_boxes(out, start, syntax, root, first, count);
+    put_header(out, 0, syntax, BOX_SEQUENCE, SQ as usize, stop - start);
     stop
 }
 

@@ -2,7 +2,7 @@
 -- Assumes nothing.
 use mathlib.Core.Path.{refl}
 use mathlib.Core.List.{List, [], _∷_, _++_, map}
-use Prim.Native.Nat.{ℕ}
+use Prim.Native.Nat.{ℕ, _+_, _*_}
 use lib.ListN.{take, drop, replicate}
 use Rattle.octets.specs.Octets.{numberAt}
 use Rattle.strike.specs.Service.{noData}
@@ -14,9 +14,11 @@ use Rattle.rules.specs.declared.Entry.{Entry}
 use Rattle.rules.specs.Text.{chars}
 use Rattle.rules.specs.Lists.{from}
 use Rattle.rules.specs.Records.{picture, madeName}
-use Rattle.rules.specs.Responses.{Note, noNote, filmsQueued, pictureAt, Reply}
+use Rattle.rules.specs.declared.Note.{Note}
+use Rattle.rules.specs.declared.Note.the-variants.{NoNote, FilmsQueued, PictureAt}
+use Rattle.rules.specs.Responses.{Reply}
 use Rattle.rules.specs.Calls.{entryBytes}
-use Rattle.rules.specs.Outcomes.{Lent, Feeding, reportBytes, numberOf, inputIn, inputHeld, fedTo, took, orUnchanged}
+use Rattle.rules.specs.Outcomes.{Lent, Feeding, reportBytes, numberOf, inputIn, inputHeld, fedTo, Taking, nothingTaken, took, orUnchanged}
 use Rattle.rules.proofs.Book.{theBook}
 use Rattle.rules.proofs.Stage.{nothingLive, Example, gives, AllHold}
 
@@ -25,7 +27,7 @@ abbrev replyWith : Note → Reply
 replyWith note = record { status = 0xB602; command = replicate 98 1; dataSet = replicate 300 2; note = note }
 
 abbrev noted : Note
-noted = pictureAt 0x01020304 0x05060708 0x090A0B0C
+noted = PictureAt 0x01020304 0x05060708 0x090A0B0C
 
 -- pictures 1 to 36, ticket 4660, copies 99
 abbrev entry : Entry
@@ -37,17 +39,17 @@ entryWritten = entryBytes (nothingLive .numbers) entry
 abbrev written : List Example
 written =
     -- "status, lengths of command and data set, and a note: none, how many films were queued, or a picture's number with place and length"
-    gives (reportBytes (replyWith noNote)) (0x02 ∷ 0xB6 ∷ 98 ∷ 0 ∷ 44 ∷ 1 ∷ 0 ∷ 0 ∷ replicate 12 0)
-    ∷ gives (reportBytes (replyWith (filmsQueued 0x01020304))) (0x02 ∷ 0xB6 ∷ 98 ∷ 0 ∷ 44 ∷ 1 ∷ 1 ∷ 0 ∷ 4 ∷ 3 ∷ 2 ∷ 1 ∷ replicate 8 0)
+    gives (reportBytes (replyWith NoNote)) (0x02 ∷ 0xB6 ∷ 98 ∷ 0 ∷ 44 ∷ 1 ∷ 0 ∷ 0 ∷ replicate 12 0)
+    ∷ gives (reportBytes (replyWith (FilmsQueued 0x01020304))) (0x02 ∷ 0xB6 ∷ 98 ∷ 0 ∷ 44 ∷ 1 ∷ 1 ∷ 0 ∷ 4 ∷ 3 ∷ 2 ∷ 1 ∷ replicate 8 0)
     ∷ gives (reportBytes (replyWith noted)) (0x02 ∷ 0xB6 ∷ 98 ∷ 0 ∷ 44 ∷ 1 ∷ 2 ∷ 0 ∷ 4 ∷ 3 ∷ 2 ∷ 1 ∷ 8 ∷ 7 ∷ 6 ∷ 5 ∷ 12 ∷ 11 ∷ 10 ∷ 9 ∷ [])
     -- field by field
     ∷ gives (map (numberAt 2 (reportBytes (replyWith noted))) (0 ∷ 2 ∷ 4 ∷ 6 ∷ []) ++ map (numberAt 4 (reportBytes (replyWith noted))) (8 ∷ 12 ∷ 16 ∷ [])) (0xB602 ∷ 98 ∷ 300 ∷ 2 ∷ 0x01020304 ∷ 0x05060708 ∷ 0x090A0B0C ∷ [])
     -- "36 pictures of 4, ticket and copies of 2, little endian, the UID zero-filled to 64"
     ∷ gives (take 12 entryWritten) (1 ∷ 0 ∷ 0 ∷ 0 ∷ 2 ∷ 0 ∷ 0 ∷ 0 ∷ 3 ∷ 0 ∷ 0 ∷ 0 ∷ [])
-    ∷ gives (drop 140 entryWritten) (36 ∷ 0 ∷ 0 ∷ 0 ∷ 0x34 ∷ 0x12 ∷ 99 ∷ 0 ∷ (chars "1.9.7.100" ++ replicate 55 0))
-    ∷ gives (numberAt 4 entryWritten 0 ∷ numberAt 4 entryWritten 4 ∷ numberAt 4 entryWritten 140 ∷ numberAt 2 entryWritten 144 ∷ numberAt 2 entryWritten 146 ∷ []) (1 ∷ 2 ∷ 36 ∷ 0x1234 ∷ 99 ∷ [])
+    ∷ gives (drop (35 * 4) entryWritten) (36 ∷ 0 ∷ 0 ∷ 0 ∷ 0x34 ∷ 0x12 ∷ 99 ∷ 0 ∷ (chars "1.9.7.100" ++ replicate 55 0))
+    ∷ gives (numberAt 4 entryWritten 0 ∷ numberAt 4 entryWritten 4 ∷ numberAt 4 entryWritten (35 * 4) ∷ numberAt 2 entryWritten (36 * 4) ∷ numberAt 2 entryWritten (36 * 4 + 2) ∷ []) (1 ∷ 2 ∷ 36 ∷ 0x1234 ∷ 99 ∷ [])
     -- "the document's number" for each answer
-    ∷ gives (map numberOf (machine.refused 5 ∷ machine.done ∷ machine.told [] ∷ machine.wait ∷ machine.dropped ∷ machine.ignored ∷ machine.failure (replyWith noNote) noData ∷ machine.success (replyWith noNote) noData ∷ [])) (5 ∷ 0 ∷ 0 ∷ 16 ∷ 17 ∷ 18 ∷ 19 ∷ 19 ∷ [])
+    ∷ gives (map numberOf (machine.refused 5 ∷ machine.done ∷ machine.told [] ∷ machine.wait ∷ machine.dropped ∷ machine.ignored ∷ machine.failure (replyWith NoNote) noData ∷ machine.success (replyWith NoNote) noData ∷ [])) (5 ∷ 0 ∷ 0 ∷ 16 ∷ 17 ∷ 18 ∷ 19 ∷ 19 ∷ [])
     ∷ []
 
 pub written-hold : AllHold written
@@ -95,8 +97,8 @@ fedWith answer = fedTo lent (6 ∷ []) (leaving answer)
 abbrev ends : Feeding → List ℕ
 ends f = f .number ∷ (f .message ++ (drop 97 (f .command) ++ (drop 299 (f .dataSet) ++ drop 19 (f .report))))
 
-abbrev tookWith : Answer Reply (List ℕ) → List ℕ
-tookWith answer = took (1 ∷ []) (2 ∷ 2 ∷ 2 ∷ []) (leaving answer) .number ∷ took (1 ∷ []) (2 ∷ 2 ∷ 2 ∷ []) (leaving answer) .entry
+abbrev tookAll : Taking → List ℕ
+tookAll t = t .number ∷ t .entry
 
 abbrev buffers : List Example
 buffers =
@@ -105,7 +107,7 @@ buffers =
     -- any other answer writes to none of them, and a refusal but 5 changes nothing
     ∷ gives (ends (fedWith machine.wait) ++ (ends (fedWith machine.dropped) ++ ends (fedWith machine.ignored))) (16 ∷ 6 ∷ 3 ∷ 3 ∷ 4 ∷ 4 ∷ 5 ∷ 5 ∷ 17 ∷ 6 ∷ 3 ∷ 3 ∷ 4 ∷ 4 ∷ 5 ∷ 5 ∷ 18 ∷ 6 ∷ 3 ∷ 3 ∷ 4 ∷ 4 ∷ 5 ∷ 5 ∷ [])
     ∷ gives (ends (fedWith (machine.refused 5)) ++ (ends (fedWith (machine.refused 4)) ++ fedWith (machine.refused 4) .records)) (5 ∷ 6 ∷ 3 ∷ 3 ∷ 4 ∷ 4 ∷ 5 ∷ 5 ∷ 4 ∷ 2 ∷ 3 ∷ 3 ∷ 4 ∷ 4 ∷ 5 ∷ 5 ∷ 1 ∷ [])
-    ∷ gives (tookWith (machine.told (7 ∷ 8 ∷ [])) ++ tookWith (machine.refused 6)) (0 ∷ 7 ∷ 8 ∷ 2 ∷ 6 ∷ 2 ∷ 2 ∷ 2 ∷ [])
+    ∷ gives (tookAll (took (1 ∷ []) (2 ∷ 2 ∷ 2 ∷ []) (nothingLive, 7 ∷ 8 ∷ [])) ++ tookAll (nothingTaken (1 ∷ []) (2 ∷ 2 ∷ 2 ∷ []) 6)) (0 ∷ 7 ∷ 8 ∷ 2 ∷ 6 ∷ 2 ∷ 2 ∷ 2 ∷ [])
     ∷ gives (orUnchanged (1 ∷ []) (leaving machine.done) .number ∷ orUnchanged (1 ∷ []) (leaving (machine.refused 3)) .number ∷ orUnchanged (1 ∷ []) (leaving (machine.refused 3)) .records) (0 ∷ 3 ∷ 1 ∷ [])
     ∷ []
 

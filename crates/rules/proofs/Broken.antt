@@ -84,7 +84,7 @@ abbrev boxOf : ℕ → ℕ → ℕ → ImageBox
 boxOf position polarity n = record { position = position; polarity = polarity; picture = picture n }
 
 abbrev layoutOf : ℕ → ℕ → List ℕ → Layout
-layoutOf turned lines counts = record { turned = turned; lines = lines; counts = counts }
+layoutOf kind lines counts = record { kind = kind; lines = lines; counts = counts }
 
 abbrev two : Layout
 two = layoutOf 1 1 (2 ∷ none 5)
@@ -153,11 +153,11 @@ parts =
     -- no session: zeros
     ∷ gives (each sessionBlank (noSession ∷ sessionOf 0 (madeName 1) 0 0 0 0 [] (replicate 64 0) ∷ sessionOf 0 (nameOf 0 1 (replicate 64 0)) 0 0 0 0 [] (replicate 64 0) ∷ sessionOf 0 (nameOf 0 0 (replicate 63 0 ++ (1 ∷ []))) 0 0 0 0 [] (replicate 64 0) ∷ sessionOf 0 noName 1 0 0 0 [] (replicate 64 0) ∷ sessionOf 0 noName 0 1 0 0 [] (replicate 64 0) ∷ sessionOf 0 noName 0 0 1 0 [] (replicate 64 0) ∷ sessionOf 0 noName 0 0 0 1 [] (replicate 64 0) ∷ sessionOf 0 noName 0 0 0 0 (0 ∷ []) (replicate 63 0) ∷ sessionOf 0 noName 0 0 0 0 [] (replicate 63 0 ++ (1 ∷ [])) ∷ [])) (1 ∷ none 9)
     -- "1 to 6 lines of 1 to 6 boxes each"
-    ∷ gives (each layoutSound (two ∷ layoutOf 0 6 (6 ∷ 1 ∷ 1 ∷ 1 ∷ 1 ∷ 6 ∷ []) ∷ [])) (1 ∷ 1 ∷ [])
-    ∷ gives (each layoutSound (layoutOf 2 1 (2 ∷ none 5) ∷ layoutOf 0 0 (none 6) ∷ layoutOf 0 7 (replicate 7 1) ∷ layoutOf 0 2 (1 ∷ none 5) ∷ layoutOf 0 2 (7 ∷ 1 ∷ none 4) ∷ layoutOf 0 1 (1 ∷ none 4 ++ (1 ∷ [])) ∷ [])) (none 6)
+    ∷ gives (each layoutSound (two ∷ layoutOf 0 6 (6 ∷ 1 ∷ 1 ∷ 1 ∷ 1 ∷ 6 ∷ []) ∷ layoutOf 2 1 (2 ∷ none 5) ∷ [])) (1 ∷ 1 ∷ 1 ∷ [])
+    ∷ gives (each layoutSound (layoutOf 3 1 (2 ∷ none 5) ∷ layoutOf 0 0 (none 6) ∷ layoutOf 0 7 (replicate 7 1) ∷ layoutOf 0 2 (1 ∷ none 5) ∷ layoutOf 0 2 (7 ∷ 1 ∷ none 4) ∷ layoutOf 0 1 (1 ∷ none 4 ++ (1 ∷ [])) ∷ [])) (none 6)
     -- a film: its name, layout, codes, serials below the next; boxes as many as its layout has, blanks behind them
     ∷ gives (each (filmSound numbers) (film ∷ made 1 2 ∷ [])) (1 ∷ 1 ∷ [])
-    ∷ gives (each (filmSound numbers) (filmOf noName two 1 3 105 boxes ∷ filmOf (madeName 100) (layoutOf 2 1 (2 ∷ none 5)) 1 3 105 boxes ∷ filmOf (madeName 100) two 2 3 105 boxes ∷ filmOf (madeName 100) two 1 4 105 boxes ∷ filmOf (madeName 100) two 1 3 0 boxes ∷ filmOf (madeName 100) two 1 3 106 boxes ∷ [])) (none 6)
+    ∷ gives (each (filmSound numbers) (filmOf noName two 1 3 105 boxes ∷ filmOf (madeName 100) (layoutOf 3 1 (2 ∷ none 5)) 1 3 105 boxes ∷ filmOf (madeName 100) two 2 3 105 boxes ∷ filmOf (madeName 100) two 1 4 105 boxes ∷ filmOf (madeName 100) two 1 3 0 boxes ∷ filmOf (madeName 100) two 1 3 106 boxes ∷ [])) (none 6)
     ∷ gives (each (filmSound numbers) (filmOf (madeName 100) two 1 3 105 (boxesOf (boxOf 0 1 2) (boxOf 1 0 0) noBox) ∷ filmOf (madeName 100) two 1 3 105 (boxesOf (boxOf 2 1 2) (boxOf 3 0 0) noBox) ∷ filmOf (madeName 100) two 1 3 105 (boxesOf (boxOf 2 2 2) (boxOf 1 0 0) noBox) ∷ filmOf (madeName 100) two 1 3 105 (boxesOf (boxOf 2 1 3) (boxOf 1 0 0) noBox) ∷ filmOf (madeName 100) two 1 3 105 (boxesOf (boxOf 2 1 2) (boxOf 1 0 0) (boxOf 1 0 0)) ∷ filmOf (madeName 100) two 1 3 105 (boxesOf (boxOf 2 1 2) (boxOf 1 0 0) (boxOf 0 1 0)) ∷ filmOf (madeName 100) two 1 3 105 (boxesOf (boxOf 2 1 2) (boxOf 1 0 0) (boxOf 0 0 1)) ∷ [])) (none 7)
     -- no film: zeros
     ∷ gives (each filmBlank (noFilm ∷ filmOf (madeName 1) (layoutOf 0 0 (none 6)) 0 0 0 (replicate 36 noBox) ∷ filmOf noName (layoutOf 1 0 (none 6)) 0 0 0 (replicate 36 noBox) ∷ filmOf noName (layoutOf 0 1 (none 6)) 0 0 0 (replicate 36 noBox) ∷ filmOf noName (layoutOf 0 0 (none 5 ++ (1 ∷ []))) 0 0 0 (replicate 36 noBox) ∷ filmOf noName (layoutOf 0 0 (none 6)) 1 0 0 (replicate 36 noBox) ∷ filmOf noName (layoutOf 0 0 (none 6)) 0 1 0 (replicate 36 noBox) ∷ filmOf noName (layoutOf 0 0 (none 6)) 0 0 1 (replicate 36 noBox) ∷ filmOf noName (layoutOf 0 0 (none 6)) 0 0 0 (replicate 35 noBox ++ (boxOf 0 0 1 ∷ [])) ∷ [])) (1 ∷ none 8)

@@ -11,10 +11,13 @@ use Rattle.rules.specs.declared.Session.{Session}
 use Rattle.rules.specs.declared.Operation.{Operation}
 use Rattle.rules.specs.declared.Operation.the-variants.{Echo, Create, Set, Act, Delete}
 use Rattle.rules.specs.Text.{chars}
-use Rattle.rules.specs.Records.{noFilm, noName, nobody, theSession, theFilm, theBox}
+use Rattle.rules.specs.declared.Instance.the-variants.{Nobody, TheSession, TheFilm, TheBox}
+use Rattle.rules.specs.Records.{noFilm, noName}
 use Rattle.rules.specs.Commands.{noPart}
 use Rattle.rules.specs.Attributes.{sessionStandings, sessionWith, filmSetStandings, filmWith, boxStandings, boxWith}
-use Rattle.rules.specs.Checks.{Class, verification, sessions, films, boxes, unknownClass, classOf, offers, ofClass}
+use Rattle.rules.specs.declared.Class.{Class}
+use Rattle.rules.specs.declared.Class.the-variants.{Verification, Sessions, Films, Boxes, UnknownClass}
+use Rattle.rules.specs.Checks.{classOf, offers, ofClass}
 use Rattle.rules.proofs.Book.{theBook}
 use Rattle.rules.proofs.Stage.{element, text, implicit, judged, someSession, Example, gives, AllHold}
 
@@ -98,11 +101,11 @@ codes-hold = (refl, (refl, (refl, (refl, (refl, (refl, (refl, (refl, (refl, tt))
 -- Classes: which a UID is, which operations each has, which instances are of it.
 
 abbrev classNumber : Class → ℕ
-classNumber verification = 0
-classNumber sessions = 1
-classNumber films = 2
-classNumber boxes = 3
-classNumber unknownClass = 4
+classNumber Verification = 0
+classNumber Sessions = 1
+classNumber Films = 2
+classNumber Boxes = 3
+classNumber UnknownClass = 4
 
 abbrev classNamed : String → ℕ
 classNamed uid = classNumber (classOf (chars uid))
@@ -121,15 +124,15 @@ abbrev offered : Class → List ℕ
 offered c = map (λ o. pick (offers c o) 1 0) operations
 
 abbrev has : Class → List ℕ
-has c = map (λ i. pick (ofClass c i) 1 0) (nobody ∷ theSession ∷ theFilm 0 ∷ theBox 0 0 ∷ [])
+has c = map (λ i. pick (ofClass c i) 1 0) (Nobody ∷ TheSession ∷ TheFilm 0 ∷ TheBox 0 0 ∷ [])
 
 abbrev classes : List Example
 classes =
     gives (map classNamed ("1.2.840.10008.1.1" ∷ "1.2.840.10008.5.1.1.1" ∷ "1.2.840.10008.5.1.1.2" ∷ "1.2.840.10008.5.1.1.4" ∷ "1.2.840.10008.5.1.1.9" ∷ "1.2.840.10008.5.1.1" ∷ [])) (0 ∷ 1 ∷ 2 ∷ 3 ∷ 4 ∷ 4 ∷ [])
     -- "session, film: the four N; image box: N-SET; Verification: C-ECHO"
-    ∷ gives (offered verification ++ (offered sessions ++ (offered films ++ (offered boxes ++ offered unknownClass)))) (1 ∷ 0 ∷ 0 ∷ 0 ∷ 0 ∷ 0 ∷ 1 ∷ 1 ∷ 1 ∷ 1 ∷ 0 ∷ 1 ∷ 1 ∷ 1 ∷ 1 ∷ 0 ∷ 0 ∷ 1 ∷ 0 ∷ 0 ∷ 0 ∷ 0 ∷ 0 ∷ 0 ∷ 0 ∷ [])
+    ∷ gives (offered Verification ++ (offered Sessions ++ (offered Films ++ (offered Boxes ++ offered UnknownClass)))) (1 ∷ 0 ∷ 0 ∷ 0 ∷ 0 ∷ 0 ∷ 1 ∷ 1 ∷ 1 ∷ 1 ∷ 0 ∷ 1 ∷ 1 ∷ 1 ∷ 1 ∷ 0 ∷ 0 ∷ 1 ∷ 0 ∷ 0 ∷ 0 ∷ 0 ∷ 0 ∷ 0 ∷ 0 ∷ [])
     -- "live in another class"
-    ∷ gives (has verification ++ (has sessions ++ (has films ++ (has boxes ++ has unknownClass)))) (0 ∷ 0 ∷ 0 ∷ 0 ∷ 0 ∷ 1 ∷ 0 ∷ 0 ∷ 0 ∷ 0 ∷ 1 ∷ 0 ∷ 0 ∷ 0 ∷ 0 ∷ 1 ∷ 0 ∷ 0 ∷ 0 ∷ 0 ∷ [])
+    ∷ gives (has Verification ++ (has Sessions ++ (has Films ++ (has Boxes ++ has UnknownClass)))) (0 ∷ 0 ∷ 0 ∷ 0 ∷ 0 ∷ 1 ∷ 0 ∷ 0 ∷ 0 ∷ 0 ∷ 1 ∷ 0 ∷ 0 ∷ 0 ∷ 0 ∷ 1 ∷ 0 ∷ 0 ∷ 0 ∷ 0 ∷ [])
     ∷ []
 
 pub classes-hold : AllHold classes

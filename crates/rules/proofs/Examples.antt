@@ -1,8 +1,8 @@
 -- Examples: P1 to P12 as a single list under one claim, computed.
 -- Assumes nothing.
 use mathlib.Core.Path.{refl}
-use mathlib.Core.Bool.{true, false}
 use mathlib.Core.List.{List, [], _∷_}
+use Rattle.headers.specs.declared.Syntax.the-variants.{Implicit, Explicit}
 use Rattle.strike.specs.Service.{noData, whole, Result}
 use Rattle.rules.specs.declared.Core.{Core}
 use Rattle.rules.specs.Records.{newSession}
@@ -22,8 +22,8 @@ deleted = decide filmLive deleteFilm noData
 -- P1 to P12 in order; P5 is the film, its boxes and the next serial
 abbrev pub examples : List Example
 examples =
-    gives (sessionWith (listingOf p1 false) newSession .copies ∷ []) (2 ∷ [])
-    ∷ gives (sessionWith (listingOf p2 true) newSession .copies ∷ []) (2 ∷ [])
+    gives (sessionWith (listingOf p1 Implicit) newSession .copies ∷ []) (2 ∷ [])
+    ∷ gives (sessionWith (listingOf p2 Explicit) newSession .copies ∷ []) (2 ∷ [])
     ∷ gives (after nothingLive (decide nothingLive createSession (whole copies99)) .session .copies ∷ []) (99 ∷ [])
     ∷ gives (status (decide nothingLive createSession (whole copies100)) ∷ []) (0x0106 ∷ [])
     ∷ gives (response P5) filmAnswer

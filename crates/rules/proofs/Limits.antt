@@ -2,7 +2,7 @@
 -- Assumes nothing.
 use mathlib.Core.Path.{refl}
 use mathlib.Core.List.{List, [], _∷_, _++_, map}
-use Prim.Native.Nat.{ℕ}
+use Prim.Native.Nat.{ℕ, _-_}
 use Prim.Native.String.{String}
 use lib.ListN.{length, replicate}
 use Rattle.choice.specs.Pick.{pick}
@@ -17,10 +17,10 @@ use Rattle.rules.specs.Commands.{wellFormed}
 use Rattle.rules.specs.Attributes.{sessionStandings, sessionWith, boxStandings}
 use Rattle.rules.specs.Effects.{nextTicket}
 use Rattle.rules.specs.Checks.{newSessionRules, newFilmRules, boxRules, sessionPrintRules, filmPrintRules}
-use Rattle.rules.specs.Calls.{Handed, withOpened, check}
+use Rattle.rules.specs.Calls.{taking, withOpened, check}
 use Rattle.rules.proofs.Book.{theBook}
 use Rattle.rules.proofs.Messages.{film23, picture}
-use Rattle.rules.proofs.Stage.{hex, element, text, implicit, judged, nothingLive, sessionLive, filmLive, theFilm, withNumbersOf, someSession, Example, gives, AllHold}
+use Rattle.rules.proofs.Stage.{hex, element, text, entrySaid, implicit, judged, nothingLive, sessionLive, filmLive, theFilm, withNumbersOf, someSession, Example, gives, AllHold}
 
 -- Values.
 
@@ -126,20 +126,17 @@ checkNumber (refuses n) = n
 abbrev shut : Core
 shut = withOpened notOpen nothingLive
 
-abbrev handed : List ℕ → ℕ → ℕ → ℕ → ℕ → ℕ → ℕ → ℕ → ℕ → ℕ → Handed
-handed root serial picture context syntax message command dataSet report entry = record { root = root; serial = serial; picture = picture; context = context; syntax = syntax; message = message; command = command; dataSet = dataSet; report = report; entry = entry }
-
 abbrev startsWith : List ℕ → ℕ → ℕ → ℕ
-startsWith root serial picture = checkNumber (check shut (start (handed root serial picture 0 0 0 0 0 0 0)))
+startsWith root serial picture = checkNumber (check shut (start (record { root = root; serial = serial; picture = picture })))
 
 abbrev opensWith : Core → ℕ → ℕ → ℕ → ℕ
-opensWith k context syntax message = checkNumber (check k (service.opening (handed [] 0 0 context syntax message 0 0 0 0)))
+opensWith k context syntax message = checkNumber (check k (service.opening (record { context = context; syntax = syntax; message = message })))
 
 abbrev feedsWith : Core → ℕ → ℕ → ℕ → ℕ → ℕ
-feedsWith k message command dataSet report = checkNumber (check k (feed [] (handed [] 0 0 0 0 message command dataSet report 0)))
+feedsWith k message command dataSet report = checkNumber (check k (feed [] (record { message = message; command = command; dataSet = dataSet; report = report })))
 
 abbrev takesWith : Core → ℕ → ℕ
-takesWith k entry = checkNumber (check k (aside (handed [] 0 0 0 0 0 0 0 0 entry)))
+takesWith k entry = checkNumber (check k (aside (taking entry)))
 
 abbrev lent : List Example
 lent =
@@ -153,8 +150,8 @@ lent =
     ∷ gives (opensWith shut 0 1 4095 ∷ opensWith shut 1 1 16777216 ∷ opensWith shut 0 1 16777217 ∷ opensWith nothingLive 0 1 4097 ∷ opensWith nothingLive 1 1 4096 ∷ []) (2 ∷ 0 ∷ 2 ∷ 2 ∷ 3 ∷ [])
     -- "Answer buffers: 256 bytes for a command, 8,192 for a data set", 20 for a report, before line 4
     ∷ gives (feedsWith nothingLive 4096 256 8192 20 ∷ feedsWith shut 4096 256 8192 20 ∷ feedsWith shut 4095 256 8192 20 ∷ feedsWith shut 16777217 256 8192 20 ∷ feedsWith shut 4096 255 8192 20 ∷ feedsWith shut 4096 256 8191 20 ∷ feedsWith shut 4096 256 8192 19 ∷ []) (0 ∷ 4 ∷ 2 ∷ 2 ∷ 2 ∷ 2 ∷ 2 ∷ [])
-    -- "212 bytes", before line 6
-    ∷ gives (takesWith (queuedBefore 1 shut) 212 ∷ takesWith (queuedBefore 1 shut) 211 ∷ takesWith shut 211 ∷ takesWith shut 212 ∷ []) (0 ∷ 2 ∷ 2 ∷ 6 ∷ [])
+    -- a taken entry, before line 6
+    ∷ gives (takesWith (queuedBefore 1 shut) entrySaid ∷ takesWith (queuedBefore 1 shut) (entrySaid - 1) ∷ takesWith shut (entrySaid - 1) ∷ takesWith shut entrySaid ∷ []) (0 ∷ 2 ∷ 2 ∷ 6 ∷ [])
     ∷ []
 
 pub lent-hold : AllHold lent

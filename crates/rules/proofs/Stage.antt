@@ -1,7 +1,6 @@
 -- What the worked examples are built of: records as they stand, and what a request gives.
 -- Assumes nothing.
 use mathlib.Core.Path.{_≡_}
-use mathlib.Core.Bool.{false}
 use mathlib.Core.List.{List, [], _∷_, _++_, map}
 use Prim.Native.Nat.{ℕ, _+_, _*_, _-_}
 use Prim.Native.String.{String}
@@ -9,6 +8,7 @@ use lib.Dec.{ltb}
 use lib.ListN.{length, replicate}
 use Rattle.choice.specs.Pick.{pick}
 use Rattle.choice.specs.Rules.{firstBroken}
+use Rattle.headers.specs.declared.Syntax.the-variants.{Implicit}
 use Rattle.strike.specs.Service.{Result, fails, does}
 use Rattle.rules.specs.declared.Core.{Core}
 use Rattle.rules.specs.declared.ImageBox.{ImageBox}
@@ -16,6 +16,7 @@ use Rattle.rules.specs.declared.Film.{Film}
 use Rattle.rules.specs.declared.Session.{Session}
 use Rattle.rules.specs.Text.{chars}
 use Rattle.rules.specs.Lists.{filledTo}
+use Rattle.rules.specs.Values.{kindStandard}
 use Rattle.rules.specs.Records.{noName, serial, madeName, sentName, shelved, queued, noSession, newSession, noBox, noEntry, withFilms, withQueue}
 use Rattle.rules.specs.Attributes.{Listing, listingOf, Standing, attributeRules, layoutFrom}
 use Rattle.rules.specs.Responses.{Reply}
@@ -44,8 +45,12 @@ abbrev pub joined : List (List ℕ) → List ℕ
 joined [] = []
 joined (e ∷ es) = e ++ joined es
 
+-- the bytes of a taken entry: "36 pictures of 4, ticket and copies of 2, .. the UID zero-filled to 64"
+abbrev pub entrySaid : ℕ
+entrySaid = 36 * 4 + 2 + 2 + 64
+
 abbrev pub implicit : List ℕ → Listing
-implicit d = listingOf d false
+implicit d = listingOf d Implicit
 
 -- check 8's status for attributes that stand so, 0 where it lets them pass
 abbrev pub judged : List Standing → ℕ
@@ -79,7 +84,7 @@ sessionLive = record {
 abbrev pub theFilm : Film
 theFilm = record {
   name = madeName 100;
-  layout = layoutFrom false (2 ∷ 2 ∷ 2 ∷ []);
+  layout = layoutFrom kindStandard (2 ∷ 2 ∷ 2 ∷ []);
   orientation = 0;
   magnification = 2;
   first = serial 101;

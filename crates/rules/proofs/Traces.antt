@@ -9,9 +9,13 @@ use Rattle.octets.specs.Octets.{numberAt}
 use Rattle.strike.specs.Service as service
 use Rattle.strike.specs.Machine as machine
 use Rattle.strike.specs.Machine.{Answer, Records, Step, step, idle}
+use Rattle.rules.proofs.Stage.{entrySaid}
 use Rattle.rules.specs.declared.Core.{Core}
-use Rattle.rules.specs.Responses.{Note, noNote, filmsQueued, pictureAt, Reply}
-use Rattle.rules.specs.Calls.{Handed, printing, started}
+use Rattle.rules.specs.Calls as calls
+use Rattle.rules.specs.Calls.{handed, printing, started}
+use Rattle.rules.specs.declared.Note.{Note}
+use Rattle.rules.specs.declared.Note.the-variants.{NoNote, FilmsQueued, PictureAt}
+use Rattle.rules.specs.Responses.{Reply}
 use Rattle.rules.specs.Outcomes.{reportBytes}
 
 -- a start with root and next numbers, an open with context, syntax and the length of the message buffer, a feed of a fragment
@@ -35,28 +39,20 @@ pub data Line : Type 0 where
   -- what no reply shows: numbers of the records as they stand then
   holds : (Core → List ℕ) → List ℕ → Line
 
--- answer buffers just long enough
-abbrev handed : List ℕ → ℕ → ℕ → ℕ → ℕ → ℕ → Handed
-handed root serial picture context syntax message =
-    record { root = root; serial = serial; picture = picture; context = context; syntax = syntax; message = message; command = 256; dataSet = 8192; report = 20; entry = 212 }
-
-abbrev nothingHanded : Handed
-nothingHanded = handed [] 0 0 0 0 0
-
--- a feed lends a message buffer of the length that the open fixed
-abbrev callOf : Core → Called → service.Call Handed
-callOf k (start root serial picture) = service.start (handed root serial picture 0 0 0)
-callOf k (opening context syntax message) = service.opening (handed [] 0 0 context syntax message)
-callOf k (feed fragment) = service.feed fragment (handed [] 0 0 0 0 (k .opened .room))
-callOf k close = service.close nothingHanded
-callOf k taking = service.aside nothingHanded
+-- answer buffers are just long enough, and a feed lends a message buffer of the length that the open fixed
+abbrev callOf : Core → Called → service.Call handed
+callOf k (start root serial picture) = service.start (record { root = root; serial = serial; picture = picture })
+callOf k (opening context syntax message) = service.opening (record { context = context; syntax = syntax; message = message })
+callOf k (feed fragment) = service.feed fragment (record { message = k .opened .room; command = 256; dataSet = 8192; report = 20 })
+callOf k close = service.close
+callOf k taking = service.aside (calls.taking entrySaid)
 
 -- a report read back: the status at 0, the note's kind at 6, its numbers at 8, 12 and 16
 abbrev pub noteIn : List ℕ → Note
 noteIn report =
-    pick (eqb (numberAt 2 report 6) 0) noNote
-    (pick (eqb (numberAt 2 report 6) 1) (filmsQueued (numberAt 4 report 8))
-    (pictureAt (numberAt 4 report 8) (numberAt 4 report 12) (numberAt 4 report 16)))
+    pick (eqb (numberAt 2 report 6) 0) NoNote
+    (pick (eqb (numberAt 2 report 6) 1) (FilmsQueued (numberAt 4 report 8))
+    (PictureAt (numberAt 4 report 8) (numberAt 4 report 12) (numberAt 4 report 16)))
 
 abbrev shownBy : List ℕ → Reply → Shown
 shownBy report r = response (numberAt 2 report 0) (r .command) (r .dataSet) (noteIn report)
@@ -94,7 +90,7 @@ said (holds look numbers ∷ trace) = held numbers ∷ said trace
 
 -- a trace begins with a start, which looks at no record
 abbrev unstarted : Run
-unstarted = record { records = record { core = started nothingHanded; input = idle }; shows = [] }
+unstarted = record { records = record { core = started (record { root = []; serial = 0; picture = 0 }); input = idle }; shows = [] }
 
 -- the book shows of each call what is kept
 abbrev pub AsKept : List Line → Type 0

@@ -1,20 +1,22 @@
 -- Worked requests: every check from 1 to 11, and the effects, computed. They catch the must-fail edits of the definitions.
 -- Assumes nothing.
 use mathlib.Core.Path.{refl}
-use mathlib.Core.Bool.{true, false}
 use mathlib.Core.List.{List, [], _∷_, _++_}
 use Prim.Native.Nat.{ℕ}
 use lib.ListN.{getD}
+use Rattle.headers.specs.declared.Syntax.the-variants.{Implicit}
 use Rattle.strike.specs.Service.{noData, whole, tooLong, Result, fails, does}
 use Rattle.rules.specs.declared.Core.{Core}
 use Rattle.rules.specs.declared.Film.{Film}
 use Rattle.rules.specs.declared.Queue.{Queue}
 use Rattle.rules.specs.Text.{chars}
-use Rattle.rules.specs.Values.{byColumns, countsIn}
+use Rattle.rules.specs.Values.{kindStandard, kindRow, kindCol, kindIn, countsIn}
 use Rattle.rules.specs.Positions.{rowOf, columnOf}
 use Rattle.rules.specs.Records.{noBox, noEntry}
 use Rattle.rules.specs.Attributes.{listingOf, layoutFrom, layoutIn}
-use Rattle.rules.specs.Responses.{Note, noNote, filmsQueued, pictureAt, Reply}
+use Rattle.rules.specs.declared.Note.{Note}
+use Rattle.rules.specs.declared.Note.the-variants.{NoNote, FilmsQueued, PictureAt}
+use Rattle.rules.specs.Responses.{Reply}
 use Rattle.rules.specs.Effects.{filmAt}
 use Rattle.rules.specs.Checks.{decide}
 use Rattle.rules.proofs.Messages.{get, foreign, createBox, createSession, createLive, createFilm, setSession, setNobody, setOther, setFilm, setBox, actTwo, printSession, printFilm, deleteSession, cutShort, noFormat, emptyFormat, film23, landscape, emptyInSet, low, moved, seventh, picture, shortPicture, oddPicture, erased, twoItems}
@@ -32,9 +34,9 @@ boxAfter k d =
     ∷ []
 
 abbrev noteNumbers : Note → List ℕ
-noteNumbers noNote = 0 ∷ []
-noteNumbers (filmsQueued n) = 1 ∷ n ∷ []
-noteNumbers (pictureAt n place size) = 2 ∷ n ∷ place ∷ size ∷ []
+noteNumbers NoNote = 0 ∷ []
+noteNumbers (FilmsQueued n) = 1 ∷ n ∷ []
+noteNumbers (PictureAt n place size) = 2 ∷ n ∷ place ∷ size ∷ []
 
 abbrev noteOf : Result Core Reply → List ℕ
 noteOf (fails r) = noteNumbers (r .note)
@@ -81,13 +83,13 @@ worked =
     -- a set stores nothing before its last value is tested
     ∷ gives (status (decide sessionLive setSession (whole low)) ∷ after sessionLive (decide sessionLive setSession (whole low)) .session .priority ∷ []) (0x0106 ∷ 1 ∷ [])
     -- columns first
-    ∷ gives (layoutIn (listingOf film23 false) .lines ∷ layoutIn (listingOf film23 false) .counts) (3 ∷ 2 ∷ 2 ∷ 2 ∷ 0 ∷ 0 ∷ 0 ∷ [])
+    ∷ gives (layoutIn (listingOf film23 Implicit) .lines ∷ layoutIn (listingOf film23 Implicit) .counts) (3 ∷ 2 ∷ 2 ∷ 2 ∷ 0 ∷ 0 ∷ 0 ∷ [])
     -- R-1: uneven rows and columns
     ∷ gives (countsIn (chars "ROW\\2,1,3") ++ (countsIn (chars "COL\\6 ") ++ countsIn (chars "ROW\\1,2,3,4,5,6"))) (2 ∷ 1 ∷ 3 ∷ 6 ∷ 1 ∷ 2 ∷ 3 ∷ 4 ∷ 5 ∷ 6 ∷ [])
     ∷ gives (countsIn (chars "ROW\\") ++ (countsIn (chars "ROW\\7") ++ (countsIn (chars "COL\\1,") ++ (countsIn (chars "COL\\12") ++ countsIn (chars "COL\\1,1,1,1,1,1,1"))))) []
     -- the fourth box of 2, 1 and 3: in the third row, or the third column
-    ∷ gives (rowOf (layoutFrom false (2 ∷ 1 ∷ 3 ∷ [])) 4 ∷ columnOf (layoutFrom false (2 ∷ 1 ∷ 3 ∷ [])) 4 ∷ rowOf (layoutFrom true (2 ∷ 1 ∷ 3 ∷ [])) 4 ∷ columnOf (layoutFrom true (2 ∷ 1 ∷ 3 ∷ [])) 4 ∷ []) (2 ∷ 0 ∷ 0 ∷ 2 ∷ [])
-    ∷ gives (layoutIn (listingOf film23 false) .turned ∷ layoutFrom (byColumns (chars "COL\\2,1,3")) (2 ∷ 1 ∷ 3 ∷ []) .turned ∷ []) (0 ∷ 1 ∷ [])
+    ∷ gives (rowOf (layoutFrom kindRow (2 ∷ 1 ∷ 3 ∷ [])) 4 ∷ columnOf (layoutFrom kindRow (2 ∷ 1 ∷ 3 ∷ [])) 4 ∷ rowOf (layoutFrom kindCol (2 ∷ 1 ∷ 3 ∷ [])) 4 ∷ columnOf (layoutFrom kindCol (2 ∷ 1 ∷ 3 ∷ [])) 4 ∷ rowOf (layoutFrom kindStandard (2 ∷ 2 ∷ [])) 3 ∷ columnOf (layoutFrom kindStandard (2 ∷ 2 ∷ [])) 3 ∷ []) (2 ∷ 0 ∷ 0 ∷ 2 ∷ 1 ∷ 0 ∷ [])
+    ∷ gives (layoutIn (listingOf film23 Implicit) .kind ∷ kindIn (chars "STANDARD\\2,3") ∷ kindIn (chars "ROW\\2,1,3") ∷ kindIn (chars "COL\\2,1,3") ∷ layoutFrom kindCol (2 ∷ 1 ∷ 3 ∷ []) .kind ∷ []) (0 ∷ 0 ∷ 1 ∷ 2 ∷ 2 ∷ [])
     -- a film set
     ∷ gives (filmAfter filmLive setFilm landscape .orientation ∷ filmAfter filmLive setFilm landscape .magnification ∷ []) (1 ∷ 2 ∷ [])
     -- a box moved, filled, erased

@@ -1,5 +1,5 @@
 -- The records: what a data set says for a session, a film and a box.
-use Prim.Native.Nat.{ℕ, _+_, _*_, _-_, _%_}
+use Prim.Native.Nat.{ℕ, _+_, _*_, _%_}
 use mathlib.Core.Bool.{Bool, true, false}
 use mathlib.Core.List.{List, [], _∷_, _++_}
 use lib.Dec.{eqb, leb, ltb}
@@ -8,37 +8,42 @@ use Rattle.choice.specs.Pick.{pick, both, either, not}
 use Rattle.choice.specs.Rules.{Rule, _⇒_}
 use Rattle.octets.specs.Octets.{same}
 use Rattle.uids.specs.Uids.{isUid, unpadded}
+use Rattle.headers.specs.declared.Syntax.{Syntax}
 use Rattle.headers.specs.declared.Part.{Part}
 use Rattle.headers.specs.declared.Inside.{Inside}
+use Rattle.headers.specs.declared.Scope.{Scope}
 use Rattle.elements.specs.declared.Found.{Found}
 use Rattle.elements.specs.declared.Found.the-variants.{Missing, Value, Sequence}
 use Rattle.elements.specs.declared.Items.{Items}
 use Rattle.elements.specs.declared.Items.the-variants.{Empty, One, Several}
-use Rattle.elements.specs.Reader.{whole}
+use Rattle.elements.specs.Reader.{deeper, dataScope}
 use Rattle.elements.specs.Find.{findAt, itemsAt}
 use Rattle.rules.specs.declared.Session.{Session}
 use Rattle.rules.specs.declared.ImageBox.{ImageBox}
 use Rattle.rules.specs.declared.Layout.{Layout}
 use Rattle.rules.specs.declared.Film.{Film}
 use Rattle.rules.specs.declared.Core.{Core}
+use Rattle.rules.specs.declared.Image.{Image}
+use Rattle.rules.specs.declared.Image.the-variants.{Keeps, Erases, TooMany, Fills}
 use Rattle.rules.specs.Text.{sessionClass}
 use Rattle.rules.specs.Lists.{any, filledTo}
-use Rattle.rules.specs.Values.{trimmed, noBytes, blank, countIn, byColumns, codeIn, priorities, media, destinations, orientations, magnifications, polarities, photometrics, labelAllowed, countsIn, isUS, usIn}
+use Rattle.rules.specs.Values.{trimmed, noBytes, blank, countIn, kindIn, codeIn, priorities, media, destinations, orientations, magnifications, polarities, photometrics, labelAllowed, countsIn, isUS, usIn}
 use Rattle.rules.specs.Records.{picture, uidOf, isLive}
 use Rattle.rules.specs.Commands.{noPart, placed, bytesOf}
 
--- A list of attributes: the bytes that it lies in, the syntax, and what it holds. A data set has room for four sequences.
+-- A list of attributes: the bytes that it lies in, and its scope there.
 pub record Listing : Type 0 where
   pub bytes : List ℕ
-  pub explicit : Bool
-  pub room : ℕ
-  pub inside : Inside
+  pub scope : Scope
 
-abbrev pub listingOf : List ℕ → Bool → Listing
-listingOf d explicit = record { bytes = d; explicit = explicit; room = 4; inside = whole d }
+abbrev pub listing : List ℕ → Scope → Listing
+listing bytes scope = record { bytes = bytes; scope = scope }
+
+abbrev pub listingOf : List ℕ → Syntax → Listing
+listingOf d syntax = listing d (dataScope d syntax)
 
 abbrev pub look : Listing → ℕ → Found
-look l tag = findAt (l .bytes) (l .explicit) (l .room) (l .inside) tag
+look l tag = findAt (l .bytes) (l .scope) tag
 
 abbrev pub valueOf : Listing → ℕ → List ℕ
 valueOf l tag = bytesOf (l .bytes) (placed (look l tag))
@@ -47,14 +52,14 @@ valueOf l tag = bytesOf (l .bytes) (placed (look l tag))
 abbrev pub itemsFound : Listing → Found → Items
 itemsFound l Missing = Empty
 itemsFound l (Value p) = Empty
-itemsFound l (Sequence inside) = itemsAt (l .bytes) (l .explicit) (l .room - 1) inside
+itemsFound l (Sequence inside) = itemsAt (l .bytes) (deeper (l .scope) inside)
 
 abbrev pub itemsIn : Listing → ℕ → Items
 itemsIn l tag = itemsFound l (look l tag)
 
 -- the list of an only item
 abbrev pub onlyItem : Listing → Inside → Listing
-onlyItem l inside = record { bytes = l .bytes; explicit = l .explicit; room = l .room - 1; inside = inside }
+onlyItem l inside = listing (l .bytes) (deeper (l .scope) inside)
 
 -- How an attribute stands.
 
@@ -194,12 +199,12 @@ filmWith l f = record {
   boxes = f .boxes;
 }
 
--- lines that are rows or columns, of so many boxes each
-abbrev pub layoutFrom : Bool → List ℕ → Layout
-layoutFrom turned counts = record { turned = pick turned 1 0; lines = length counts; counts = filledTo 6 0 counts }
+-- lines of so many boxes each
+abbrev pub layoutFrom : ℕ → List ℕ → Layout
+layoutFrom kind counts = record { kind = kind; lines = length counts; counts = filledTo 6 0 counts }
 
 unfoldable pub layoutIn : Listing → Layout
-layoutIn l = layoutFrom (byColumns (valueOf l 0x2010_0010)) (countsIn (valueOf l 0x2010_0010))
+layoutIn l = layoutFrom (kindIn (valueOf l 0x2010_0010)) (countsIn (valueOf l 0x2010_0010))
 
 -- Box.
 
@@ -239,42 +244,38 @@ imageStandings l =
     ∷ []
 
 -- "no item erases, one fills with the next picture number, more is 0106H"
-pub data Image : Type 0 where
-  keeps erases tooMany : Image
-  fills : Listing → Image
-
-abbrev pub imageOf : Listing → Items → Image
-imageOf l Empty = erases
-imageOf l (One inside) = fills (onlyItem l inside)
-imageOf l (Several n) = tooMany
+abbrev pub imageOf : Items → Image
+imageOf Empty = Erases
+imageOf (One inside) = Fills inside
+imageOf (Several n) = TooMany
 
 abbrev pub imageFound : Listing → Found → Image
-imageFound l Missing = keeps
-imageFound l (Value p) = tooMany
-imageFound l (Sequence inside) = imageOf l (itemsFound l (Sequence inside))
+imageFound l Missing = Keeps
+imageFound l (Value p) = TooMany
+imageFound l (Sequence inside) = imageOf (itemsFound l (Sequence inside))
 
 unfoldable pub imageIn : Listing → Image
 imageIn l = imageFound l (look l 0x2020_0110)
 
-abbrev pub sequenceStandings : Image → List Standing
-sequenceStandings keeps = []
-sequenceStandings erases = []
-sequenceStandings tooMany = wrong ∷ []
-sequenceStandings (fills item) = imageStandings item
+abbrev pub sequenceStandings : Listing → Image → List Standing
+sequenceStandings l Keeps = []
+sequenceStandings l Erases = []
+sequenceStandings l TooMany = wrong ∷ []
+sequenceStandings l (Fills inside) = imageStandings (onlyItem l inside)
 
 -- "Position (2020,0010) US, mandatory in N-SET, 1 to C×R"
 unfoldable pub boxStandings : ℕ → Listing → List Standing
 boxStandings boxes l =
     number (λ n. both (leb 1 n) (leb n boxes)) l 0x2020_0010
     ∷ optional (code polarities l 0x2020_0020)
-    ∷ sequenceStandings (imageIn l)
+    ∷ sequenceStandings l (imageIn l)
 
 -- the picture of a box, where `next` is the next picture number
 abbrev pub pictureAfter : ℕ → Image → ℕ → ℕ
-pictureAfter next keeps old = old
-pictureAfter next erases old = 0
-pictureAfter next tooMany old = old
-pictureAfter next (fills item) old = next
+pictureAfter next Keeps old = old
+pictureAfter next Erases old = 0
+pictureAfter next TooMany old = old
+pictureAfter next (Fills inside) old = next
 
 unfoldable pub boxWith : ℕ → Listing → ImageBox → ImageBox
 boxWith next l b = record {
@@ -284,14 +285,17 @@ boxWith next l b = record {
 }
 
 abbrev pub isFill : Image → Bool
-isFill keeps = false
-isFill erases = false
-isFill tooMany = false
-isFill (fills item) = true
+isFill Keeps = false
+isFill Erases = false
+isFill TooMany = false
+isFill (Fills inside) = true
 
 -- where the pixels lie in the message buffer, without a byte of padding (R-3)
-abbrev pub pixels : Image → Part
-pixels keeps = noPart
-pixels erases = noPart
-pixels tooMany = noPart
-pixels (fills item) = record { from = placed (look item 0x7FE0_0010) .from; stop = placed (look item 0x7FE0_0010) .from + pixelBytes item }
+abbrev pub itemPixels : Listing → Part
+itemPixels item = record { from = placed (look item 0x7FE0_0010) .from; stop = placed (look item 0x7FE0_0010) .from + pixelBytes item }
+
+abbrev pub pixels : Listing → Image → Part
+pixels l Keeps = noPart
+pixels l Erases = noPart
+pixels l TooMany = noPart
+pixels l (Fills inside) = itemPixels (onlyItem l inside)

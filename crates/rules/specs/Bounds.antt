@@ -1,8 +1,5 @@
 -- Numbers that bound it.
-use Prim.Native.Nat.{ℕ}
-
-abbrev pub commandLimit : ℕ
-commandLimit = 1024
+use Prim.Native.Nat.{ℕ, _+_, _*_}
 
 -- the message buffer, in bytes
 abbrev pub leastRoom : ℕ
@@ -21,9 +18,6 @@ dataRoom = 8192
 abbrev pub reportRoom : ℕ
 reportRoom = 20
 
-abbrev pub entryRoom : ℕ
-entryRoom = 212
-
 abbrev pub mostFilms : ℕ
 mostFilms = 8
 
@@ -32,6 +26,19 @@ mostBoxes = 36
 
 abbrev pub mostEntries : ℕ
 mostEntries = 16
+
+-- an entry that is taken: where its ticket, copies and UID stand behind the pictures, and its end
+abbrev pub ticketPlace : ℕ
+ticketPlace = mostBoxes * 4
+
+abbrev pub copiesPlace : ℕ
+copiesPlace = ticketPlace + 2
+
+abbrev pub uidPlace : ℕ
+uidPlace = copiesPlace + 2
+
+abbrev pub entryRoom : ℕ
+entryRoom = uidPlace + 64
 
 abbrev pub rootLimit : ℕ
 rootLimit = 40

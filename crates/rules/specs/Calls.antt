@@ -8,7 +8,9 @@ use Rattle.choice.specs.Pick.{pick, both, either, not}
 use Rattle.choice.specs.Rules.{Rule, _⇒_, firstOr}
 use Rattle.octets.specs.Octets.{octets}
 use Rattle.uids.specs.Uids.{isUid}
-use Rattle.strike.specs.Service.{Reading, unreadable, alone, withData, Call, start, opening, feed, close, aside, Check, passes, refuses, Service}
+use Rattle.strike.specs.declared.Reading.{Reading}
+use Rattle.strike.specs.declared.Reading.the-variants.{NotReadable, Alone, WithData}
+use Rattle.strike.specs.Service.{Handed, Call, start, opening, feed, close, aside, Check, passes, refuses, Service}
 use Rattle.rules.specs.declared.Picture.{Picture}
 use Rattle.rules.specs.declared.Entry.{Entry}
 use Rattle.rules.specs.declared.Numbers.{Numbers}
@@ -23,18 +25,30 @@ use Rattle.rules.specs.Commands.{understood, hasData}
 use Rattle.rules.specs.Responses.{Reply}
 use Rattle.rules.specs.Checks.{decide}
 
--- what is handed over beside the records and a fragment: arguments, and the lengths of lent buffers
-pub record Handed : Type 0 where
+-- What is handed over with each call beside the records and a fragment: arguments, and the lengths of lent buffers.
+
+pub record Starting : Type 0 where
   pub root : List ℕ
   pub serial : ℕ
   pub picture : ℕ
+
+pub record Opening : Type 0 where
   pub context : ℕ
   pub syntax : ℕ
+  pub message : ℕ
+
+pub record Lengths : Type 0 where
   pub message : ℕ
   pub command : ℕ
   pub dataSet : ℕ
   pub report : ℕ
-  pub entry : ℕ
+
+-- the calls outside messages: take, with the length of the buffer for the entry
+pub data Aside : Type 0 where
+  taking : ℕ → Aside
+
+abbrev pub handed : Handed
+handed = record { Start = Starting; Opening = Opening; Feed = Lengths; Aside = Aside }
 
 -- Line 2: "the message buffer is out of limits or, while open, of another length".
 
@@ -60,20 +74,20 @@ badSyntax n = not (either (eqb n 1) (eqb n 2))
 
 -- The lines of each call, in the table's order; lines 1 and 2 for the records themselves stand before them (Outcomes).
 
-abbrev pub startRules : Handed → List Rule
+abbrev pub startRules : Starting → List Rule
 startRules h =
     (badRoot (h .root) ⇒ 3)
     ∷ (either (badNumber (h .serial)) (badNumber (h .picture)) ⇒ 3)
     ∷ []
 
-abbrev pub openRules : Core → Handed → List Rule
+abbrev pub openRules : Core → Opening → List Rule
 openRules k h =
     (messageWrong k (h .message) ⇒ 2)
     ∷ (either (badContext (h .context)) (badSyntax (h .syntax)) ⇒ 3)
     ∷ (isOpen k ⇒ 3)
     ∷ []
 
-abbrev pub feedRules : Core → Handed → List Rule
+abbrev pub feedRules : Core → Lengths → List Rule
 feedRules k h =
     (messageWrong k (h .message) ⇒ 2)
     ∷ (ltb (h .command) commandRoom ⇒ 2)
@@ -85,26 +99,26 @@ feedRules k h =
 abbrev pub closeRules : Core → List Rule
 closeRules k = (not (isOpen k) ⇒ 4) ∷ []
 
-abbrev pub takeRules : Core → Handed → List Rule
-takeRules k h =
-    (ltb (h .entry) entryRoom ⇒ 2)
+abbrev pub takeRules : Core → ℕ → List Rule
+takeRules k entry =
+    (ltb entry entryRoom ⇒ 2)
     ∷ (eqb (length (entriesOf (k .queue))) 0 ⇒ 6)
     ∷ []
 
-abbrev pub rulesOf : Core → Call Handed → List Rule
+abbrev pub rulesOf : Core → Call handed → List Rule
 rulesOf k (start h) = startRules h
 rulesOf k (opening h) = openRules k h
 rulesOf k (feed bytes h) = feedRules k h
-rulesOf k (close h) = closeRules k
-rulesOf k (aside h) = takeRules k h
+rulesOf k close = closeRules k
+rulesOf k (aside (taking entry)) = takeRules k entry
 
-unfoldable pub check : Core → Call Handed → Check
+unfoldable pub check : Core → Call handed → Check
 check k c = firstOr refuses (rulesOf k c) passes
 
 -- What the calls do.
 
 -- "Start makes fresh records, not open."; "the first [ticket] after start is 0"
-unfoldable pub started : Handed → Core
+unfoldable pub started : Starting → Core
 started h = record {
   numbers = record { used = length (h .root); root = filledTo rootLimit 0 (h .root); serial = h .serial; picture = h .picture; ticket = 0 };
   session = noSession;
@@ -116,7 +130,7 @@ started h = record {
 abbrev pub withOpened : Opened → Core → Core
 withOpened o k = record { numbers = k .numbers; session = k .session; shelf = k .shelf; queue = k .queue; opened = o }
 
-unfoldable pub opened : Core → Handed → Core
+unfoldable pub opened : Core → Opening → Core
 opened k h = withOpened (record { live = 1; context = h .context; syntax = h .syntax; room = h .message }) k
 
 -- "Close drops session, films, boxes and input; queue and next numbers stay."
@@ -132,14 +146,17 @@ unfoldable pub entryBytes : Numbers → Entry → List ℕ
 entryBytes n e = pictureBytes (e .pictures) ++ (octets 2 (e .ticket) ++ (octets 2 (e .copies) ++ filledTo 64 0 (uidOf n (e .film))))
 
 -- "Room of taken entries is used again."
-unfoldable pub taken : Core → Handed → Core × List ℕ
-taken k h = (withQueue (drop 1 (entriesOf (k .queue))) k, entryBytes (k .numbers) (getD (entriesOf (k .queue)) 0 noEntry))
+unfoldable pub taken : Core → Core × List ℕ
+taken k = (withQueue (drop 1 (entriesOf (k .queue))) k, entryBytes (k .numbers) (getD (entriesOf (k .queue)) 0 noEntry))
+
+abbrev pub asked : Core → Aside → Core × List ℕ
+asked k (taking entry) = taken k
 
 -- "an unreadable command is dropped"; "Without data set (type 0101H) the request is done at once"
 abbrev pub readingOf : Bool → Command → Reading
-readingOf withSet Unreadable = unreadable
-readingOf withSet (Unknown message field) = pick withSet withData alone
-readingOf withSet (Known r) = pick withSet withData alone
+readingOf withSet Unreadable = NotReadable
+readingOf withSet (Unknown message field) = pick withSet WithData Alone
+readingOf withSet (Known r) = pick withSet WithData Alone
 
 unfoldable pub reading : List ℕ → Reading
 reading c = readingOf (hasData c) (understood c)
@@ -148,14 +165,14 @@ reading c = readingOf (hasData c) (understood c)
 abbrev pub printing : Service
 printing = record {
   Core = Core;
-  Arg = Handed;
+  handed = handed;
   Response = Reply;
   Told = List ℕ;
   check = check;
   started = started;
   opened = opened;
   closed = closed;
-  asked = taken;
+  asked = asked;
   context = λ (k : Core). k .opened .context;
   room = λ (k : Core). k .opened .room;
   reading = reading;

@@ -9,13 +9,21 @@ use Rattle.choice.specs.Pick.{pick, both, either, not}
 use Rattle.choice.specs.Rules.{Rule, _⇒_, firstOr}
 use Rattle.octets.specs.Octets.{same}
 use Rattle.uids.specs.Uids.{isUid, beginsWith}
+use Rattle.headers.specs.declared.Syntax.{Syntax}
 use Rattle.headers.specs.declared.Part.{Part}
 use Rattle.elements.specs.Reader.{dataSet}
-use Rattle.writing.specs.Bytes.{written}
-use Rattle.strike.specs.Service.{DataSet, noData, whole, tooLong, Result, fails, does}
+use Rattle.strike.specs.declared.Came.{Came}
+use Rattle.strike.specs.declared.Came.the-variants.{Absent, Whole, TooLong}
+use Rattle.strike.specs.Service.{DataSet, Result, fails, does}
 use Rattle.rules.specs.declared.ImageBox.{ImageBox}
 use Rattle.rules.specs.declared.Film.{Film}
+use Rattle.rules.specs.declared.Name.{Name}
 use Rattle.rules.specs.declared.Core.{Core}
+use Rattle.rules.specs.declared.Contents.{Contents}
+use Rattle.rules.specs.declared.Contents.the-variants.{Nothing, NewBoxes}
+use Rattle.rules.specs.declared.Verdict.{Verdict}
+use Rattle.rules.specs.declared.Class.{Class}
+use Rattle.rules.specs.declared.Class.the-variants.{Verification, Sessions, Films, Boxes, UnknownClass}
 use Rattle.rules.specs.declared.Operation.{Operation}
 use Rattle.rules.specs.declared.Operation.the-variants.{Echo, Create, Set, Act, Delete}
 use Rattle.rules.specs.declared.Request.{Request}
@@ -24,54 +32,56 @@ use Rattle.rules.specs.declared.Command.the-variants.{Unreadable, Unknow
 use Rattle.rules.specs.Bounds.{mostFilms}
 use Rattle.rules.specs.Text.{verificationClass, sessionClass, filmClass, boxClass}
 use Rattle.rules.specs.Lists.{any, apart}
-use Rattle.rules.specs.Records.{boxCount, boxesOf, filmsOf, rootOf, uidOf, isLive, explicitVR, Instance, nobody, theSession, theFilm, theBox, named, boxUids}
+use Rattle.rules.specs.declared.Instance.{Instance}
+use Rattle.rules.specs.declared.Instance.the-variants.{Nobody, TheSession, TheFilm, TheBox}
+use Rattle.rules.specs.Records.{boxCount, boxesOf, filmsOf, rootOf, uidOf, isLive, syntaxIn, named, noName, sentName, instanceOf}
 use Rattle.rules.specs.Commands.{size, uidAt, isRead, understood}
-use Rattle.rules.specs.Attributes.{Listing, listingOf, attributeRules, sessionStandings, filmCreateStandings, filmSetStandings, boxStandings, Image, imageIn, isFill, pixels}
-use Rattle.rules.specs.Responses.{Says, Note, noNote, filmsQueued, pictureAt, Reply, reply, filmTree}
+use Rattle.rules.specs.declared.Image.{Image}
+use Rattle.rules.specs.Attributes.{Listing, listingOf, attributeRules, sessionStandings, filmCreateStandings, filmSetStandings, boxStandings, imageIn, isFill, pixels}
+use Rattle.rules.specs.declared.Note.{Note}
+use Rattle.rules.specs.declared.Note.the-variants.{NoNote, FilmsQueued, PictureAt}
+use Rattle.rules.specs.Responses.{Says, Reply, reply, dataSetOf}
 use Rattle.rules.specs.Effects.{ownSerials, nameFrom, tooFewSerials, noPictureLeft, sessionCreated, newFilm, filmSerials, filmCreated, sessionSet, filmAt, filmSet, boxSet, sessionDeleted, filmDeleted, printed, filledBoxes, noneFilled, queueRoom}
 
 -- Classes.
 
-pub data Class : Type 0 where
-  verification sessions films boxes unknownClass : Class
-
 unfoldable pub classOf : List ℕ → Class
 classOf uid =
-    pick (same uid verificationClass) verification
-    (pick (same uid sessionClass) sessions
-    (pick (same uid filmClass) films
-    (pick (same uid boxClass) boxes unknownClass)))
+    pick (same uid verificationClass) Verification
+    (pick (same uid sessionClass) Sessions
+    (pick (same uid filmClass) Films
+    (pick (same uid boxClass) Boxes UnknownClass)))
 
 abbrev pub isUnknown : Class → Bool
-isUnknown verification = false
-isUnknown sessions = false
-isUnknown films = false
-isUnknown boxes = false
-isUnknown unknownClass = true
+isUnknown Verification = false
+isUnknown Sessions = false
+isUnknown Films = false
+isUnknown Boxes = false
+isUnknown UnknownClass = true
 
 -- "session, film: the four N; image box: N-SET; Verification: C-ECHO"
 abbrev pub offers : Class → Operation → Bool
-offers verification (Echo r) = true
-offers verification (Create r) = false
-offers verification (Set r) = false
-offers verification (Act r) = false
-offers verification (Delete r) = false
-offers sessions (Echo r) = false
-offers sessions (Create r) = true
-offers sessions (Set r) = true
-offers sessions (Act r) = true
-offers sessions (Delete r) = true
-offers films (Echo r) = false
-offers films (Create r) = true
-offers films (Set r) = true
-offers films (Act r) = true
-offers films (Delete r) = true
-offers boxes (Echo r) = false
-offers boxes (Create r) = false
-offers boxes (Set r) = true
-offers boxes (Act r) = false
-offers boxes (Delete r) = false
-offers unknownClass o = false
+offers Verification (Echo r) = true
+offers Verification (Create r) = false
+offers Verification (Set r) = false
+offers Verification (Act r) = false
+offers Verification (Delete r) = false
+offers Sessions (Echo r) = false
+offers Sessions (Create r) = true
+offers Sessions (Set r) = true
+offers Sessions (Act r) = true
+offers Sessions (Delete r) = true
+offers Films (Echo r) = false
+offers Films (Create r) = true
+offers Films (Set r) = true
+offers Films (Act r) = true
+offers Films (Delete r) = true
+offers Boxes (Echo r) = false
+offers Boxes (Create r) = false
+offers Boxes (Set r) = true
+offers Boxes (Act r) = false
+offers Boxes (Delete r) = false
+offers UnknownClass o = false
 
 abbrev pub classPart : Operation → Part
 classPart (Echo r) = r .class
@@ -82,21 +92,15 @@ classPart (Delete r) = r .class
 
 -- Data sets.
 
-abbrev pub isTooLong : DataSet → Bool
-isTooLong noData = false
-isTooLong (whole d) = false
-isTooLong tooLong = true
+abbrev pub isTooLong : Came → Bool
+isTooLong Absent = false
+isTooLong Whole = false
+isTooLong TooLong = true
 
-abbrev pub isUnreadable : Bool → DataSet → Bool
-isUnreadable explicit noData = false
-isUnreadable explicit (whole d) = not (isRead (dataSet d explicit))
-isUnreadable explicit tooLong = false
-
--- N-CREATE or N-SET without data set is as with an empty one
-abbrev pub dataOf : DataSet → List ℕ
-dataOf noData = []
-dataOf (whole d) = d
-dataOf tooLong = []
+abbrev pub isUnreadable : Syntax → Came → List ℕ → Bool
+isUnreadable syntax Absent d = false
+isUnreadable syntax Whole d = not (isRead (dataSet d syntax))
+isUnreadable syntax TooLong d = false
 
 -- Checks 2 to 5.
 
@@ -104,33 +108,33 @@ unfoldable pub generalRules : Core → List ℕ → DataSet → Operation → Li
 generalRules k c d o =
     (isUnknown (classOf (uidAt c (classPart o))) ⇒ 0x0118)
     ∷ (not (offers (classOf (uidAt c (classPart o))) o) ⇒ 0x0211)
-    ∷ (isTooLong d ⇒ 0x0213)
-    ∷ (isUnreadable (explicitVR k) d ⇒ 0x0110)
+    ∷ (isTooLong (d .came) ⇒ 0x0213)
+    ∷ (isUnreadable (syntaxIn k) (d .came) (d .bytes) ⇒ 0x0110)
     ∷ []
 
 -- Check 6.
 
 abbrev pub isNobody : Instance → Bool
-isNobody nobody = true
-isNobody theSession = false
-isNobody (theFilm i) = false
-isNobody (theBox i j) = false
+isNobody Nobody = true
+isNobody TheSession = false
+isNobody (TheFilm i) = false
+isNobody (TheBox i j) = false
 
 abbrev pub ofClass : Class → Instance → Bool
-ofClass verification x = false
-ofClass sessions nobody = false
-ofClass sessions theSession = true
-ofClass sessions (theFilm i) = false
-ofClass sessions (theBox i j) = false
-ofClass films nobody = false
-ofClass films theSession = false
-ofClass films (theFilm i) = true
-ofClass films (theBox i j) = false
-ofClass boxes nobody = false
-ofClass boxes theSession = false
-ofClass boxes (theFilm i) = false
-ofClass boxes (theBox i j) = true
-ofClass unknownClass x = false
+ofClass Verification x = false
+ofClass Sessions Nobody = false
+ofClass Sessions TheSession = true
+ofClass Sessions (TheFilm i) = false
+ofClass Sessions (TheBox i j) = false
+ofClass Films Nobody = false
+ofClass Films TheSession = false
+ofClass Films (TheFilm i) = true
+ofClass Films (TheBox i j) = false
+ofClass Boxes Nobody = false
+ofClass Boxes TheSession = false
+ofClass Boxes (TheFilm i) = false
+ofClass Boxes (TheBox i j) = true
+ofClass UnknownClass x = false
 
 -- the UID sent with N-CREATE; "an empty one is not sent"
 abbrev pub isSent : Part → Bool
@@ -190,32 +194,26 @@ filmPrintRules k i =
 
 -- What is done, and check 11.
 
-pub record Done : Type 0 where
-  pub core : Core
-  pub status : ℕ
-  pub instance : Option (List ℕ)
-  pub dataSet : List ℕ
-  pub note : Note
+abbrev pub quietly : Core → Name → Verdict
+quietly k name = record { done = true; status = 0x0000; core = k; instance = name; note = NoNote; contents = Nothing }
 
-abbrev pub quietly : Core → Option (List ℕ) → Done
-quietly k instance = record { core = k; status = 0x0000; instance = instance; dataSet = []; note = noNote }
-
-abbrev pub printedWith : Core → ℕ → List Film → List ℕ → Done
-printedWith k warning printing instance = record {
-  core = printed k printing;
+abbrev pub printedWith : Core → ℕ → List Film → Name → Verdict
+printedWith k warning printing name = record {
+  done = true;
   status = pick (any noneFilled printing) warning 0x0000;
-  instance = some instance;
-  dataSet = [];
-  note = filmsQueued (length printing);
+  core = printed k printing;
+  instance = name;
+  note = FilmsQueued (length printing);
+  contents = Nothing;
 }
 
--- the rules of an operation on what it names, and what it does where none is broken
+-- the rules of an operation on what it names, and what it comes to where none is broken
 pub record Plan : Type 0 where
   pub rules : List Rule
-  pub done : Done
+  pub verdict : Verdict
 
 abbrev pub nothing : Core → Plan
-nothing k = record { rules = []; done = quietly k none }
+nothing k = record { rules = []; verdict = quietly k noName }
 
 abbrev pub sentUid : List ℕ → Part → List ℕ
 sentUid c sent = pick (isSent sent) (uidAt c sent) []
@@ -223,89 +221,123 @@ sentUid c sent = pick (isSent sent) (uidAt c sent) []
 abbrev pub newUid : Core → List ℕ → List ℕ
 newUid k sent = uidOf (k .numbers) (nameFrom (k .numbers) sent)
 
+abbrev pub boxesIn : Film → Contents
+boxesIn f = NewBoxes (f .first .0) (boxCount (f .layout))
+
 unfoldable pub createPlan : Core → Class → List ℕ → Listing → Plan
-createPlan k verification sent l = nothing k
-createPlan k sessions sent l = record {
+createPlan k Verification sent l = nothing k
+createPlan k Sessions sent l = record {
   rules = newSessionRules k sent l;
-  done = quietly (sessionCreated k sent l) (some (newUid k sent));
+  verdict = quietly (sessionCreated k sent l) (nameFrom (k .numbers) sent);
 }
-createPlan k films sent l = record {
+createPlan k Films sent l = record {
   rules = newFilmRules k sent l;
-  done = record {
-    core = filmCreated k sent l;
+  verdict = record {
+    done = true;
     status = 0x0000;
-    instance = some (newUid k sent);
-    dataSet = written (explicitVR k) (filmTree (boxUids (k .numbers) (newFilm k sent l)));
-    note = noNote;
+    core = filmCreated k sent l;
+    instance = nameFrom (k .numbers) sent;
+    note = NoNote;
+    contents = boxesIn (newFilm k sent l);
   };
 }
-createPlan k boxes sent l = nothing k
-createPlan k unknownClass sent l = nothing k
+createPlan k Boxes sent l = nothing k
+createPlan k UnknownClass sent l = nothing k
 
-abbrev pub imageNote : Core → Image → Note
-imageNote k image = pick (isFill image) (pictureAt (k .numbers .picture) (pixels image .from) (size (pixels image))) noNote
+abbrev pub imageNote : Core → Listing → Image → Note
+imageNote k l image = pick (isFill image) (PictureAt (k .numbers .picture) (pixels l image .from) (size (pixels l image))) NoNote
 
-unfoldable pub setPlan : Core → Instance → List ℕ → Listing → Plan
-setPlan k nobody uid l = nothing k
-setPlan k theSession uid l = record {
+unfoldable pub setPlan : Core → Instance → Name → Listing → Plan
+setPlan k Nobody name l = nothing k
+setPlan k TheSession name l = record {
   rules = attributeRules (sessionStandings l);
-  done = quietly (sessionSet k l) (some uid);
+  verdict = quietly (sessionSet k l) name;
 }
-setPlan k (theFilm i) uid l = record {
+setPlan k (TheFilm i) name l = record {
   rules = attributeRules (filmSetStandings l);
-  done = quietly (filmSet k i l) (some uid);
+  verdict = quietly (filmSet k i l) name;
 }
-setPlan k (theBox i j) uid l = record {
+setPlan k (TheBox i j) name l = record {
   rules = boxRules k i l;
-  done = record { core = boxSet k i j l; status = 0x0000; instance = some uid; dataSet = []; note = imageNote k (imageIn l) };
+  verdict = record {
+    done = true;
+    status = 0x0000;
+    core = boxSet k i j l;
+    instance = name;
+    note = imageNote k l (imageIn l);
+    contents = Nothing;
+  };
 }
 
-unfoldable pub actionPlan : Core → Instance → List ℕ → Plan
-actionPlan k nobody uid = nothing k
-actionPlan k theSession uid = record {
+unfoldable pub actionPlan : Core → Instance → Name → Plan
+actionPlan k Nobody name = nothing k
+actionPlan k TheSession name = record {
   rules = sessionPrintRules k;
-  done = printedWith k 0xB602 (filmsOf (k .shelf)) uid;
+  verdict = printedWith k 0xB602 (filmsOf (k .shelf)) name;
 }
-actionPlan k (theFilm i) uid = record {
+actionPlan k (TheFilm i) name = record {
   rules = filmPrintRules k i;
-  done = printedWith k 0xB603 (filmAt k i ∷ []) uid;
+  verdict = printedWith k 0xB603 (filmAt k i ∷ []) name;
 }
-actionPlan k (theBox i j) uid = nothing k
+actionPlan k (TheBox i j) name = nothing k
 
-unfoldable pub deletePlan : Core → Instance → List ℕ → Plan
-deletePlan k nobody uid = nothing k
-deletePlan k theSession uid = record { rules = []; done = quietly (sessionDeleted k) (some uid) }
-deletePlan k (theFilm i) uid = record { rules = []; done = quietly (filmDeleted k i) (some uid) }
-deletePlan k (theBox i j) uid = nothing k
+unfoldable pub deletePlan : Core → Instance → Name → Plan
+deletePlan k Nobody name = nothing k
+deletePlan k TheSession name = record { rules = []; verdict = quietly (sessionDeleted k) name }
+deletePlan k (TheFilm i) name = record { rules = []; verdict = quietly (filmDeleted k i) name }
+deletePlan k (TheBox i j) name = nothing k
 
 abbrev pub also : List Rule → Plan → Plan
-also rules p = record { rules = rules ++ p .rules; done = p .done }
+also rules p = record { rules = rules ++ p .rules; verdict = p .verdict }
 
--- Checks 6 to 11, by the operation.
-unfoldable pub planOf : Core → List ℕ → DataSet → Operation → Plan
+-- Checks 6 to 11, by the operation; N-CREATE or N-SET without data set is as with an empty one.
+unfoldable pub planOf : Core → List ℕ → List ℕ → Operation → Plan
 planOf k c d (Echo r) = nothing k
 planOf k c d (Create r) =
     also (createRules k c (r .sent))
-    (createPlan k (classOf (uidAt c (r .class))) (sentUid c (r .sent)) (listingOf (dataOf d) (explicitVR k)))
+    (createPlan k (classOf (uidAt c (r .class))) (sentUid c (r .sent)) (listingOf d (syntaxIn k)))
 planOf k c d (Set r) =
     also (targetRules k c (r .class) (r .instance))
-    (setPlan k (named k (uidAt c (r .instance))) (uidAt c (r .instance)) (listingOf (dataOf d) (explicitVR k)))
+    (setPlan k (named k (uidAt c (r .instance))) (sentName (uidAt c (r .instance))) (listingOf d (syntaxIn k)))
 planOf k c d (Act r) =
     also (targetRules k c (r .class) (r .instance) ++ ((not (eqb (r .kind) 1) ⇒ 0x0123) ∷ []))
-    (actionPlan k (named k (uidAt c (r .instance))) (uidAt c (r .instance)))
+    (actionPlan k (named k (uidAt c (r .instance))) (sentName (uidAt c (r .instance))))
 planOf k c d (Delete r) =
     also (targetRules k c (r .class) (r .instance))
-    (deletePlan k (named k (uidAt c (r .instance))) (uidAt c (r .instance)))
+    (deletePlan k (named k (uidAt c (r .instance))) (sentName (uidAt c (r .instance))))
 
--- The response.
+-- What a request comes to.
 
 -- "a failed create leaves it out if none was sent .. or it breaks PS3.5; C-ECHO has none"
-abbrev pub failedInstance : List ℕ → Operation → Option (List ℕ)
-failedInstance c (Echo r) = none
-failedInstance c (Create r) = pick (both (isSent (r .sent)) (isUid (uidAt c (r .sent)))) (some (uidAt c (r .sent))) none
-failedInstance c (Set r) = some (uidAt c (r .instance))
-failedInstance c (Act r) = some (uidAt c (r .instance))
-failedInstance c (Delete r) = some (uidAt c (r .instance))
+abbrev pub sentOrNone : List ℕ → Part → Name
+sentOrNone c sent = pick (both (isSent sent) (isUid (uidAt c sent))) (sentName (uidAt c sent)) noName
+
+abbrev pub failedName : List ℕ → Operation → Name
+failedName c (Echo r) = noName
+failedName c (Create r) = sentOrNone c (r .sent)
+failedName c (Set r) = sentName (uidAt c (r .instance))
+failedName c (Act r) = sentName (uidAt c (r .instance))
+failedName c (Delete r) = sentName (uidAt c (r .instance))
+
+-- a failure changes no record, and may have a note
+abbrev pub failed : Core → List ℕ → Request → Note → ℕ → Verdict
+failed k c r note status = record {
+  done = false;
+  status = status;
+  core = k;
+  instance = failedName c (r .operation);
+  note = note;
+  contents = Nothing;
+}
+
+-- the first rule that is broken fails, and where none is the plan holds
+abbrev pub decidedBy : Core → List ℕ → Request → Plan → Verdict
+decidedBy k c r plan = firstOr (failed k c r NoNote) (plan .rules) (plan .verdict)
+
+unfoldable pub decideRequest : Core → List ℕ → DataSet → Request → Verdict
+decideRequest k c d r = decidedBy k c r (also (generalRules k c d (r .operation)) (planOf k c (d .bytes) (r .operation)))
+
+-- The response.
 
 abbrev pub fieldOf : Operation → ℕ
 fieldOf (Echo r) = 0x0030
@@ -334,22 +366,17 @@ says c r instance = record {
 abbrev pub saysUnknown : ℕ → ℕ → Says
 saysUnknown message field = record { class = none; field = field; message = message; instance = none; action = none }
 
-abbrev pub failed : List ℕ → Request → ℕ → Result Core Reply
-failed c r status = fails (reply (says c r (failedInstance c (r .operation))) status [] noNote)
+abbrev pub replyTo : Core → List ℕ → Request → Verdict → Reply
+replyTo k c r v = reply (says c r (instanceOf (k .numbers) (v .instance))) (v .status) (dataSetOf k (v .contents)) (v .note)
 
-abbrev pub answered : List ℕ → Request → Done → Result Core Reply
-answered c r done = does (done .core) (reply (says c r (done .instance)) (done .status) (done .dataSet) (done .note))
-
-unfoldable pub decideRequest : Core → List ℕ → DataSet → Request → Result Core Reply
-decideRequest k c d r =
-    firstOr (failed c r) (generalRules k c d (r .operation) ++ planOf k c d (r .operation) .rules)
-    (answered c r (planOf k c d (r .operation) .done))
+abbrev pub resultOf : Core → List ℕ → Request → Verdict → Result Core Reply
+resultOf k c r v = pick (v .done) (does (v .core) (replyTo k c r v)) (fails (replyTo k c r v))
 
 -- a request decided: it fails, or does what it asks; check 1 is that its field is unknown
 abbrev pub decideCommand : Core → List ℕ → DataSet → Command → Result Core Reply
-decideCommand k c d Unreadable = fails (reply (saysUnknown 0 0) 0x0211 [] noNote)
-decideCommand k c d (Unknown message field) = fails (reply (saysUnknown message field) 0x0211 [] noNote)
-decideCommand k c d (Known r) = decideRequest k c d r
+decideCommand k c d Unreadable = fails (reply (saysUnknown 0 0) 0x0211 [] NoNote)
+decideCommand k c d (Unknown message field) = fails (reply (saysUnknown message field) 0x0211 [] NoNote)
+decideCommand k c d (Known r) = resultOf k c r (decideRequest k c d r)
 
 unfoldable pub decide : Core → List ℕ → DataSet → Result Core Reply
 decide k c d = decideCommand k c d (understood c)

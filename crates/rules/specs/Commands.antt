@@ -7,13 +7,14 @@ use lib.ListN.{length}
 use Rattle.choice.specs.Pick.{pick, both, not}
 use Rattle.octets.specs.Octets.{numberAt, part}
 use Rattle.uids.specs.Uids.{isUid, unpadded}
+use Rattle.headers.specs.declared.Syntax.the-variants.{Implicit}
 use Rattle.headers.specs.declared.Part.{Part}
 use Rattle.headers.specs.Header.{tagAt}
 use Rattle.elements.specs.declared.Read.{Read}
 use Rattle.elements.specs.declared.Read.the-variants.{Past, Refused}
 use Rattle.elements.specs.declared.Found.{Found}
 use Rattle.elements.specs.declared.Found.the-variants.{Missing, Value, Sequence}
-use Rattle.elements.specs.Reader.{start, whole, dataSet}
+use Rattle.elements.specs.Reader.{start, whole, dataSet, dataScope}
 use Rattle.elements.specs.Find.{elementsFrom, findAt}
 use Rattle.rules.specs.declared.Operation.{Operation}
 use Rattle.rules.specs.declared.Operation.the-variants.{Echo, Create, Set, Act, Delete}
@@ -23,7 +24,7 @@ use Rattle.rules.specs.Lists.{every}
 
 -- "Command sets are implicit VR little endian."
 abbrev pub inCommand : List ℕ → ℕ → Found
-inCommand c tag = findAt c false 4 (whole c) tag
+inCommand c tag = findAt c (dataScope c Implicit) tag
 
 abbrev pub noPart : Part
 noPart = record { from = 0; stop = 0 }
@@ -60,7 +61,7 @@ isRead (Refused n) = false
 
 -- "elements all in group 0000"
 unfoldable pub groupZero : List ℕ → Bool
-groupZero c = every (λ m. ltb (tagAt c (m .at)) 65536) (elementsFrom c false 4 (whole c) (start (whole c)))
+groupZero c = every (λ m. ltb (tagAt c (m .at)) 65536) (elementsFrom c (dataScope c Implicit) (start (whole c)))
 
 -- "the first (0000,0000) equal to the bytes after it"
 unfoldable pub lengthTold : List ℕ → Bool
@@ -75,7 +76,7 @@ messageId c = numberIn c 0x0000_0110
 -- "Field 8000H and above: unreadable."
 unfoldable pub wellFormed : List ℕ → Bool
 wellFormed c =
-    both (isRead (dataSet c false))
+    both (isRead (dataSet c Implicit))
     (both (groupZero c)
     (both (lengthTold c)
     (both (hasNumber c 0x0000_0100)

@@ -16,7 +16,8 @@ use Rattle.rules.specs.declared.Core.{Core}
 use Rattle.rules.specs.Bounds.{mostBoxes, mostEntries, noneLeft, tickets}
 use Rattle.rules.specs.Lists.{any, from, filledTo, without}
 use Rattle.rules.specs.Records.{serial, picture, madeName, sentName, boxCount, boxesOf, filled, noBox, noFilm, filmsOf, entriesOf, noSession, newSession, withNumbers, withSession, withFilms, withQueue, serialsUsed, pictureUsed}
-use Rattle.rules.specs.Attributes.{Listing, Image, imageIn, isFill, sessionWith, filmWith, layoutIn, boxWith}
+use Rattle.rules.specs.declared.Image.{Image}
+use Rattle.rules.specs.Attributes.{Listing, imageIn, isFill, sessionWith, filmWith, layoutIn, boxWith}
 
 -- Numbers.
 

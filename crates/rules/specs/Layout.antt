@@ -1,7 +1,8 @@
--- The records: how they stand in bytes, field after field.
-use Prim.Native.Nat.{ℕ}
+-- The records: how they stand in bytes, field after field; beside each format, how many bytes that is.
+use Prim.Native.Nat.{ℕ, _+_, _*_}
 use mathlib.Core.List.{List}
 use Rattle.fields.specs.Format.{Format, byte, number, _then_, array, via}
+use Rattle.strike.specs.Machine.{commandLimit}
 use Rattle.rules.specs.declared.Serial.{Serial}
 use Rattle.rules.specs.declared.Picture.{Picture}
 use Rattle.rules.specs.declared.Name.{Name}
@@ -17,13 +18,22 @@ use Rattle.rules.specs.declared.Opened.{Opened}
 use Rattle.rules.specs.declared.Core.{Core}
 use Rattle.rules.specs.declared.Input.{Input}
 use Rattle.rules.specs.declared.State.{State}
-use Rattle.rules.specs.Bounds.{commandLimit, mostFilms, mostBoxes, mostEntries, rootLimit}
+use Rattle.rules.specs.Bounds.{mostFilms, mostBoxes, mostEntries, rootLimit}
+
+abbrev pub serialSize : ℕ
+serialSize = 4
 
 unfoldable pub serialFormat : Format Serial
-serialFormat = via (λ t. record { 0 = t }) (λ x. x .0) (number 4)
+serialFormat = via (λ t. record { 0 = t }) (λ x. x .0) (number serialSize)
+
+abbrev pub pictureSize : ℕ
+pictureSize = 4
 
 unfoldable pub pictureFormat : Format Picture
-pictureFormat = via (λ t. record { 0 = t }) (λ x. x .0) (number 4)
+pictureFormat = via (λ t. record { 0 = t }) (λ x. x .0) (number pictureSize)
+
+abbrev pub nameSize : ℕ
+nameSize = serialSize + 1 + 64
 
 unfoldable pub nameFormat : Format Name
 nameFormat =
@@ -32,12 +42,18 @@ nameFormat =
     (λ x. (x .made, (x .used, x .text)))
     (serialFormat then byte then array 64 byte)
 
+abbrev pub sessionSize : ℕ
+sessionSize = 1 + nameSize + 1 + 1 + 1 + 1 + 1 + 64
+
 unfoldable pub sessionFormat : Format Session
 sessionFormat =
     via
     (λ t. record { live = t .0; name = t .1 .0; copies = t .1 .1 .0; priority = t .1 .1 .1 .0; medium = t .1 .1 .1 .1 .0; destination = t .1 .1 .1 .1 .1 .0; used = t .1 .1 .1 .1 .1 .1 .0; label = t .1 .1 .1 .1 .1 .1 .1 })
     (λ x. (x .live, (x .name, (x .copies, (x .priority, (x .medium, (x .destination, (x .used, x .label))))))))
     (byte then nameFormat then byte then byte then byte then byte then byte then array 64 byte)
+
+abbrev pub boxSize : ℕ
+boxSize = 1 + 1 + pictureSize
 
 unfoldable pub boxFormat : Format ImageBox
 boxFormat =
@@ -46,12 +62,18 @@ boxFormat =
     (λ x. (x .position, (x .polarity, x .picture)))
     (byte then byte then pictureFormat)
 
+abbrev pub layoutSize : ℕ
+layoutSize = 1 + 1 + 6
+
 unfoldable pub layoutFormat : Format Layout
 layoutFormat =
     via
-    (λ t. record { turned = t .0; lines = t .1 .0; counts = t .1 .1 })
-    (λ x. (x .turned, (x .lines, x .counts)))
+    (λ t. record { kind = t .0; lines = t .1 .0; counts = t .1 .1 })
+    (λ x. (x .kind, (x .lines, x .counts)))
     (byte then byte then array 6 byte)
+
+abbrev pub filmSize : ℕ
+filmSize = nameSize + layoutSize + 1 + 1 + serialSize + mostBoxes * boxSize
 
 unfoldable pub filmFormat : Format Film
 filmFormat =
@@ -60,6 +82,9 @@ filmFormat =
     (λ x. (x .name, (x .layout, (x .orientation, (x .magnification, (x .first, x .boxes))))))
     (nameFormat then layoutFormat then byte then byte then serialFormat then array mostBoxes boxFormat)
 
+abbrev pub shelfSize : ℕ
+shelfSize = 1 + mostFilms * filmSize
+
 unfoldable pub shelfFormat : Format Shelf
 shelfFormat =
     via
@@ -67,12 +92,18 @@ shelfFormat =
     (λ x. (x .count, x .films))
     (byte then array mostFilms filmFormat)
 
+abbrev pub entrySize : ℕ
+entrySize = mostBoxes * pictureSize + 2 + 1 + nameSize
+
 unfoldable pub entryFormat : Format Entry
 entryFormat =
     via
     (λ t. record { pictures = t .0; ticket = t .1 .0; copies = t .1 .1 .0; film = t .1 .1 .1 })
     (λ x. (x .pictures, (x .ticket, (x .copies, x .film))))
     (array mostBoxes pictureFormat then number 2 then byte then nameFormat)
+
+abbrev pub queueSize : ℕ
+queueSize = 1 + mostEntries * entrySize
 
 unfoldable pub queueFormat : Format Queue
 queueFormat =
@@ -82,12 +113,18 @@ queueFormat =
     (byte then array mostEntries entryFormat)
 
 -- a next number may be one past the last: five bytes
+abbrev pub numbersSize : ℕ
+numbersSize = 1 + rootLimit + 5 + 5 + 2
+
 unfoldable pub numbersFormat : Format Numbers
 numbersFormat =
     via
     (λ t. record { used = t .0; root = t .1 .0; serial = t .1 .1 .0; picture = t .1 .1 .1 .0; ticket = t .1 .1 .1 .1 })
     (λ x. (x .used, (x .root, (x .serial, (x .picture, x .ticket)))))
     (byte then array rootLimit byte then number 5 then number 5 then number 2)
+
+abbrev pub openedSize : ℕ
+openedSize = 1 + 1 + 1 + 4
 
 unfoldable pub openedFormat : Format Opened
 openedFormat =
@@ -96,12 +133,18 @@ openedFormat =
     (λ x. (x .live, (x .context, (x .syntax, x .room))))
     (byte then byte then byte then number 4)
 
+abbrev pub coreSize : ℕ
+coreSize = numbersSize + sessionSize + shelfSize + queueSize + openedSize
+
 unfoldable pub coreFormat : Format Core
 coreFormat =
     via
     (λ t. record { numbers = t .0; session = t .1 .0; shelf = t .1 .1 .0; queue = t .1 .1 .1 .0; opened = t .1 .1 .1 .1 })
     (λ x. (x .numbers, (x .session, (x .shelf, (x .queue, x .opened)))))
     (numbersFormat then sessionFormat then shelfFormat then queueFormat then openedFormat)
+
+abbrev pub inputSize : ℕ
+inputSize = 1 + 2 + 4 + commandLimit
 
 unfoldable pub inputFormat : Format Input
 inputFormat =
@@ -110,17 +153,16 @@ inputFormat =
     (λ x. (x .phase, (x .used, (x .got, x .command))))
     (byte then number 2 then number 4 then array commandLimit byte)
 
--- the input stands last, so that a fragment need write no more than it
+-- how many bytes the records have; the input stands last, so that a fragment need write no more than it
+abbrev pub recordsSize : ℕ
+recordsSize = coreSize + inputSize
+
 unfoldable pub stateFormat : Format State
 stateFormat =
     via
     (λ t. record { core = t .0; input = t .1 })
     (λ x. (x .core, x .input))
     (coreFormat then inputFormat)
-
--- how many bytes the records have
-abbrev pub recordsSize : ℕ
-recordsSize = 7080
 
 unfoldable pub unpack : List ℕ → State
 unpack records = stateFormat .read records 0

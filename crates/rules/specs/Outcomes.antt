@@ -6,23 +6,22 @@ use lib.ListN.{length, take, replicate}
 use Rattle.choice.specs.Pick.{pick, both, not}
 use Rattle.choice.specs.Rules.{Rule, _⇒_, firstOr}
 use Rattle.octets.specs.Octets.{octets, laid}
-use Rattle.strike.specs.Service.{start, opening, feed, close, aside}
+use Rattle.strike.specs.Service.{Call, start, opening, feed, close}
 use Rattle.strike.specs.Machine as machine
-use Rattle.strike.specs.Machine.{idle, inCommand, skippingCommand, inData, skippingData, Answer, refused, done, told, ignored, wait, dropped, failure, success, Records, Step, step, messageAfter}
+use Rattle.strike.specs.Machine.{commandLimit, idle, inCommand, skippingCommand, inData, skippingData, Answer, refused, done, told, ignored, wait, dropped, failure, success, Records, Step, step, messageAfter}
 use Rattle.rules.specs.declared.Core.{Core}
 use Rattle.rules.specs.declared.Input.{Input}
 use Rattle.rules.specs.declared.State.{State}
-use Rattle.rules.specs.Bounds.{commandLimit}
 use Rattle.rules.specs.Lists.{filledTo}
-use Rattle.rules.specs.Responses.{Note, noNote, filmsQueued, pictureAt, Reply}
+use Rattle.rules.specs.Records.{commandHeld}
+use Rattle.rules.specs.declared.Note.{Note}
+use Rattle.rules.specs.declared.Note.the-variants.{NoNote, FilmsQueued, PictureAt}
+use Rattle.rules.specs.Responses.{Reply}
 use Rattle.rules.specs.Sound.{sound}
 use Rattle.rules.specs.Layout.{recordsSize, unpack, pack}
-use Rattle.rules.specs.Calls.{Handed, printing}
+use Rattle.rules.specs.Calls.{Starting, Opening, Lengths, handed, takeRules, taken, printing}
 
 -- The input as the records and the message buffer hold it: "Data lies in the message buffer from its start."
-
-abbrev pub commandHeld : Input → List ℕ
-commandHeld i = take (i .used) (i .command)
 
 unfoldable pub inputIn : Input → List ℕ → machine.Input
 inputIn i message =
@@ -55,9 +54,9 @@ coreWritten k b = laid b 0 (pack (record { core = k; input = unpack b .input }))
 -- What a response fills: command, data set, report.
 
 abbrev pub noteBytes : Note → List ℕ
-noteBytes noNote = octets 2 0 ++ replicate 12 0
-noteBytes (filmsQueued n) = octets 2 1 ++ (octets 4 n ++ replicate 8 0)
-noteBytes (pictureAt n place size) = octets 2 2 ++ (octets 4 n ++ (octets 4 place ++ octets 4 size))
+noteBytes NoNote = octets 2 0 ++ replicate 12 0
+noteBytes (FilmsQueued n) = octets 2 1 ++ (octets 4 n ++ replicate 8 0)
+noteBytes (PictureAt n place size) = octets 2 2 ++ (octets 4 n ++ (octets 4 place ++ octets 4 size))
 
 unfoldable pub reportBytes : Reply → List ℕ
 reportBytes r = octets 2 (r .status) ++ (octets 2 (length (r .command)) ++ (octets 2 (length (r .dataSet)) ++ noteBytes (r .note)))
@@ -75,8 +74,11 @@ numberOf (success r d) = 19
 
 -- Lines 1 and 2 for the records themselves: "records long enough break a rule", "too short".
 
+abbrev pub shortRules : List ℕ → List Rule
+shortRules b = (ltb (length b) recordsSize ⇒ 2) ∷ []
+
 abbrev pub recordsRules : List ℕ → List Rule
-recordsRules b = (both (leb recordsSize (length b)) (not (sound (unpack b))) ⇒ 1) ∷ (ltb (length b) recordsSize ⇒ 2) ∷ []
+recordsRules b = (both (leb recordsSize (length b)) (not (sound (unpack b))) ⇒ 1) ∷ shortRules b
 
 -- Start, open, close.
 
@@ -94,15 +96,18 @@ unchanged b n = record { number = n; records = b }
 abbrev pub orUnchanged : List ℕ → Step Core Reply (List ℕ) → Outcome
 orUnchanged b s = pick (eqb (numberOf (s .answer)) 0) (changed b s) (unchanged b (numberOf (s .answer)))
 
+abbrev pub called : List Rule → List ℕ → Call handed → Outcome
+called rules b c = firstOr (unchanged b) rules (orUnchanged b (step printing (recordsIn (unpack b) []) c))
+
 -- start looks at no record: any will do
-unfoldable pub starts : List ℕ → Handed → Outcome
-starts b h = firstOr (unchanged b) ((ltb (length b) recordsSize ⇒ 2) ∷ []) (orUnchanged b (step printing (recordsIn (unpack b) []) (start h)))
+unfoldable pub starts : List ℕ → Starting → Outcome
+starts b h = called (shortRules b) b (start h)
 
-unfoldable pub opens : List ℕ → Handed → Outcome
-opens b h = firstOr (unchanged b) (recordsRules b) (orUnchanged b (step printing (recordsIn (unpack b) []) (opening h)))
+unfoldable pub opens : List ℕ → Opening → Outcome
+opens b h = called (recordsRules b) b (opening h)
 
-unfoldable pub closes : List ℕ → Handed → Outcome
-closes b h = firstOr (unchanged b) (recordsRules b) (orUnchanged b (step printing (recordsIn (unpack b) []) (close h)))
+unfoldable pub closes : List ℕ → Outcome
+closes b = called (recordsRules b) b close
 
 -- Take.
 
@@ -114,21 +119,14 @@ pub record Taking : Type 0 where
 abbrev pub nothingTaken : List ℕ → List ℕ → ℕ → Taking
 nothingTaken b e n = record { number = n; records = b; entry = e }
 
-abbrev pub tookFrom : Records Core → List ℕ → List ℕ → Answer Reply (List ℕ) → Taking
-tookFrom r b e (told bytes) = record { number = 0; records = coreWritten (r .core) b; entry = laid e 0 bytes }
-tookFrom r b e (refused n) = nothingTaken b e n
-tookFrom r b e done = nothingTaken b e 0
-tookFrom r b e ignored = nothingTaken b e 0
-tookFrom r b e wait = nothingTaken b e 0
-tookFrom r b e dropped = nothingTaken b e 0
-tookFrom r b e (failure reply d) = nothingTaken b e 0
-tookFrom r b e (success reply d) = nothingTaken b e 0
+abbrev pub took : List ℕ → List ℕ → Core × List ℕ → Taking
+took b e t = record { number = 0; records = coreWritten (t .0) b; entry = laid e 0 (t .1) }
 
-abbrev pub took : List ℕ → List ℕ → Step Core Reply (List ℕ) → Taking
-took b e s = tookFrom (s .records) b e (s .answer)
-
-unfoldable pub takes : List ℕ → List ℕ → Handed → Taking
-takes b e h = firstOr (nothingTaken b e) (recordsRules b) (took b e (step printing (recordsIn (unpack b) []) (aside h)))
+unfoldable pub takes : List ℕ → List ℕ → Taking
+takes b e =
+    firstOr (nothingTaken b e) (recordsRules b)
+    (firstOr (nothingTaken b e) (takeRules (unpack b .core) (length e))
+    (took b e (taken (unpack b .core))))
 
 -- Feed.
 
@@ -191,19 +189,8 @@ abbrev pub fedTo : Lent → List ℕ → Step Core Reply (List ℕ) → Feeding
 fedTo l message s = fedFrom l (s .records) message (s .answer)
 
 -- the lengths that the check of a feed looks at
-abbrev pub lengths : Lent → Handed
-lengths l = record {
-  root = [];
-  serial = 0;
-  picture = 0;
-  context = 0;
-  syntax = 0;
-  message = length (l .message);
-  command = length (l .command);
-  dataSet = length (l .dataSet);
-  report = length (l .report);
-  entry = 0;
-}
+abbrev pub lengths : Lent → Lengths
+lengths l = record { message = length (l .message); command = length (l .command); dataSet = length (l .dataSet); report = length (l .report) }
 
 unfoldable pub feeds : Lent → List ℕ → Feeding
 feeds l fragment =

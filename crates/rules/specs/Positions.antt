@@ -6,6 +6,7 @@ use lib.ListN.{length, getD, take}
 use Rattle.choice.specs.Pick.{pick}
 use Rattle.rules.specs.declared.Layout.{Layout}
 use Rattle.rules.specs.Lists.{sum}
+use Rattle.rules.specs.Values.{kindCol}
 
 -- a line, and a place in it, both from 0
 pub record Spot : Type 0 where
@@ -32,7 +33,7 @@ abbrev pub spotAt : Layout → ℕ → Spot
 spotAt l position = spotOf (take (l .lines) (l .counts)) (position - 1)
 
 abbrev pub rowOf : Layout → ℕ → ℕ
-rowOf l position = pick (eqb (l .turned) 0) (spotAt l position .line) (spotAt l position .place)
+rowOf l position = pick (eqb (l .kind) kindCol) (spotAt l position .place) (spotAt l position .line)
 
 abbrev pub columnOf : Layout → ℕ → ℕ
-columnOf l position = pick (eqb (l .turned) 0) (spotAt l position .place) (spotAt l position .line)
+columnOf l position = pick (eqb (l .kind) kindCol) (spotAt l position .line) (spotAt l position .place)

@@ -1,12 +1,15 @@
 -- The records: what they hold, by lists and names.
 use Prim.Native.Nat.{ℕ, _+_}
 use mathlib.Core.Bool.{Bool}
+use mathlib.Core.Option.{Option, none, some}
 use mathlib.Core.List.{List, map}
 use lib.Dec.{eqb}
 use lib.ListN.{length, getD, take, replicate}
 use Rattle.choice.specs.Pick.{pick, both, not}
 use Rattle.octets.specs.Octets.{same}
 use Rattle.uids.specs.Uids.{made}
+use Rattle.headers.specs.declared.Syntax.{Syntax}
+use Rattle.headers.specs.Header.{syntaxOf}
 use Rattle.rules.specs.declared.Serial.{Serial}
 use Rattle.rules.specs.declared.Picture.{Picture}
 use Rattle.rules.specs.declared.Name.{Name}
@@ -20,6 +23,9 @@ use Rattle.rules.specs.declared.Queue.{Queue}
 use Rattle.rules.specs.declared.Numbers.{Numbers}
 use Rattle.rules.specs.declared.Opened.{Opened}
 use Rattle.rules.specs.declared.Core.{Core}
+use Rattle.rules.specs.declared.Input.{Input}
+use Rattle.rules.specs.declared.Instance.{Instance}
+use Rattle.rules.specs.declared.Instance.the-variants.{Nobody, TheSession, TheFilm, TheBox}
 use Rattle.rules.specs.Bounds.{mostFilms, mostBoxes, mostEntries}
 use Rattle.rules.specs.Lists.{any, placeOf, sum, from, filledTo}
 
@@ -62,7 +68,7 @@ abbrev pub noBox : ImageBox
 noBox = record { position = 0; polarity = 0; picture = picture 0 }
 
 abbrev pub noLayout : Layout
-noLayout = record { turned = 0; lines = 0; counts = replicate 6 0 }
+noLayout = record { kind = 0; lines = 0; counts = replicate 6 0 }
 
 abbrev pub noFilm : Film
 noFilm = record {
@@ -129,8 +135,13 @@ notOpen = record { live = 0; context = 0; syntax = 0; room = 0 }
 abbrev pub isOpen : Core → Bool
 isOpen k = not (eqb (k .opened .live) 0)
 
-abbrev pub explicitVR : Core → Bool
-explicitVR k = eqb (k .opened .syntax) 2
+abbrev pub syntaxIn : Core → Syntax
+syntaxIn k = syntaxOf (k .opened .syntax)
+
+-- The command half collected.
+
+abbrev pub commandHeld : Input → List ℕ
+commandHeld i = take (i .used) (i .command)
 
 -- The core with one part anew.
 
@@ -154,17 +165,19 @@ serialsUsed n k = record { used = k .used; root = k .root; serial = k .serial + 
 abbrev pub pictureUsed : Numbers → Numbers
 pictureUsed k = record { used = k .used; root = k .root; serial = k .serial; picture = k .picture + 1; ticket = k .ticket }
 
+-- the instance that a response names; no name is none
+abbrev pub instanceOf : Numbers → Name → Option (List ℕ)
+instanceOf n name = pick (both (eqb (name .made .0) 0) (eqb (name .used) 0)) none (some (uidOf n name))
+
 -- Which instance a UID names.
 
-pub data Instance : Type 0 where
-  nobody : Instance
-  theSession : Instance
-  theFilm : ℕ → Instance
-  theBox : ℕ → ℕ → Instance
+-- so many made UIDs, from a serial on
+abbrev pub uidsFrom : Numbers → ℕ → ℕ → List (List ℕ)
+uidsFrom n first count = map (made (rootOf n)) (from first count)
 
 -- the UIDs of a film's boxes, in order
 unfoldable pub boxUids : Numbers → Film → List (List ℕ)
-boxUids n f = map (made (rootOf n)) (from (f .first .0) (boxCount (f .layout)))
+boxUids n f = uidsFrom n (f .first .0) (boxCount (f .layout))
 
 abbrev pub filmNamed : Numbers → List ℕ → Film → Bool
 filmNamed n uid f = same uid (uidOf n (f .name))
@@ -173,11 +186,11 @@ abbrev pub boxNamed : Numbers → List ℕ → Film → Bool
 boxNamed n uid f = any (same uid) (boxUids n f)
 
 abbrev pub boxOf : Numbers → List ℕ → List Film → ℕ → Instance
-boxOf n uid films i = theBox i (placeOf (same uid) (boxUids n (getD films i noFilm)))
+boxOf n uid films i = TheBox i (placeOf (same uid) (boxUids n (getD films i noFilm)))
 
 unfoldable pub named : Core → List ℕ → Instance
 named k uid =
-    pick (both (isLive (k .session)) (same uid (uidOf (k .numbers) (k .session .name)))) theSession
-    (pick (any (filmNamed (k .numbers) uid) (filmsOf (k .shelf))) (theFilm (placeOf (filmNamed (k .numbers) uid) (filmsOf (k .shelf))))
+    pick (both (isLive (k .session)) (same uid (uidOf (k .numbers) (k .session .name)))) TheSession
+    (pick (any (filmNamed (k .numbers) uid) (filmsOf (k .shelf))) (TheFilm (placeOf (filmNamed (k .numbers) uid) (filmsOf (k .shelf))))
     (pick (any (boxNamed (k .numbers) uid) (filmsOf (k .shelf))) (boxOf (k .numbers) uid (filmsOf (k .shelf)) (placeOf (boxNamed (k .numbers) uid) (filmsOf (k .shelf))))
-    nobody))
+    Nobody))

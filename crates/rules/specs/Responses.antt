@@ -1,6 +1,6 @@
 -- Requests: the response, and the created film's data set.
-use Prim.Native.Nat.{ℕ, _+_}
-use mathlib.Core.Bool.{Bool, false}
+use Prim.Native.Nat.{ℕ, _+_, _≤_}
+use mathlib.Core.Bool.{Bool}
 use mathlib.Core.List.{List, [], _∷_}
 use mathlib.Core.Option.{Option, none, some}
 use lib.Dec.{eqb}
@@ -8,9 +8,16 @@ use lib.ListN.{length}
 use Rattle.choice.specs.Pick.{pick, either, not}
 use Rattle.octets.specs.Octets.{octets}
 use Rattle.tags.specs.Table.{UI, UL, US}
+use Rattle.headers.specs.declared.Syntax.the-variants.{Implicit}
 use Rattle.writing.specs.Tree.{Elements, noElements, value, sequence, Items, noItems, item}
 use Rattle.writing.specs.Bytes.{written}
+use Rattle.rules.specs.declared.Core.{Core}
+use Rattle.rules.specs.declared.Note.{Note}
+use Rattle.rules.specs.declared.Contents.{Contents}
+use Rattle.rules.specs.declared.Contents.the-variants.{Nothing, NewBoxes}
+use Rattle.rules.specs.Bounds.{mostBoxes, noneLeft}
 use Rattle.rules.specs.Text.{boxClass}
+use Rattle.rules.specs.Records.{uidsFrom, syntaxIn}
 
 -- what a response says; a class, an instance or an action type may be left out
 pub record Says : Type 0 where
@@ -19,12 +26,6 @@ pub record Says : Type 0 where
   pub message : ℕ
   pub instance : Option (List ℕ)
   pub action : Option ℕ
-
--- "a note: none, how many films were queued, or a picture's number with place and length of its pixels"
-pub data Note : Type 0 where
-  noNote : Note
-  filmsQueued : ℕ → Note
-  pictureAt : ℕ → ℕ → ℕ → Note
 
 -- "warning B602H (session) or B603H (film)"
 abbrev pub isWarning : ℕ → Bool
@@ -67,10 +68,10 @@ responseElements says status d =
 
 unfoldable pub responseTree : Says → ℕ → List ℕ → Elements
 responseTree says status d =
-    value 0x0000_0000 UL (octets 4 (length (written false (responseElements says status d)))) (responseElements says status d)
+    value 0x0000_0000 UL (octets 4 (length (written Implicit (responseElements says status d)))) (responseElements says status d)
 
 unfoldable pub reply : Says → ℕ → List ℕ → Note → Reply
-reply says status d note = record { status = status; command = written false (responseTree says status d); dataSet = d; note = note }
+reply says status d note = record { status = status; command = written Implicit (responseTree says status d); dataSet = d; note = note }
 
 -- "an item per box in order, with (0008,1150), (0008,1155)"
 unfoldable pub boxItems : List (List ℕ) → Items
@@ -79,3 +80,13 @@ boxItems (uid ∷ uids) = item (value 0x0008_1150 UI boxClass (value 0x0008_1155
 
 unfoldable pub filmTree : List (List ℕ) → Elements
 filmTree uids = sequence 0x2010_0510 (boxItems uids) noElements
+
+-- the boxes of one film, with serials of 32 bits
+abbrev pub ContentsFit : Contents → Type 0
+ContentsFit Nothing = Unit {0}
+ContentsFit (NewBoxes first count) = (count ≤ mostBoxes) × (first + count ≤ noneLeft)
+
+-- "Only a created film has data": the answer's data set, in the open's syntax
+abbrev pub dataSetOf : Core → Contents → List ℕ
+dataSetOf k Nothing = []
+dataSetOf k (NewBoxes first count) = written (syntaxIn k) (filmTree (uidsFrom (k .numbers) first count))

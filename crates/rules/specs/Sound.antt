@@ -7,6 +7,7 @@ use lib.ListN.{length, take, drop}
 use Rattle.choice.specs.Pick.{pick, both, not}
 use Rattle.octets.specs.Octets.{same}
 use Rattle.uids.specs.Uids.{isUid, beginsWith}
+use Rattle.strike.specs.Machine.{commandLimit}
 use Rattle.rules.specs.declared.Picture.{Picture}
 use Rattle.rules.specs.declared.Name.{Name}
 use Rattle.rules.specs.declared.Session.{Session}
@@ -23,10 +24,10 @@ use Rattle.rules.specs.declared.Input.{Input}
 use Rattle.rules.specs.declared.State.{State}
 use Rattle.rules.specs.declared.Command.{Command}
 use Rattle.rules.specs.declared.Command.the-variants.{Unreadable, Unknown, Known}
-use Rattle.rules.specs.Bounds.{commandLimit, leastRoom, mostRoom, mostFilms, mostEntries, rootLimit, noneLeft}
+use Rattle.rules.specs.Bounds.{leastRoom, mostRoom, mostFilms, mostEntries, rootLimit, noneLeft}
 use Rattle.rules.specs.Lists.{every, apart}
-use Rattle.rules.specs.Values.{trimmed, labelAllowed}
-use Rattle.rules.specs.Records.{rootOf, boxCount, boxesOf, filmsOf, entriesOf, isLive}
+use Rattle.rules.specs.Values.{trimmed, labelAllowed, kindCol}
+use Rattle.rules.specs.Records.{rootOf, boxCount, boxesOf, filmsOf, entriesOf, isLive, commandHeld}
 use Rattle.rules.specs.Commands.{understood}
 
 abbrev pub all : List Bool → Bool
@@ -92,10 +93,10 @@ sessionBlank s =
     ∷ zeros (s .label)
     ∷ [])
 
--- 1 to 6 lines of 1 to 6 boxes each
+-- one of three formats; 1 to 6 lines of 1 to 6 boxes each
 unfoldable pub layoutSound : Layout → Bool
 layoutSound l =
-    all (flag (l .turned)
+    all (leb (l .kind) kindCol
     ∷ between 1 6 (l .lines)
     ∷ every (between 1 6) (take (l .lines) (l .counts))
     ∷ zeros (drop (l .lines) (l .counts))
@@ -123,7 +124,7 @@ filmSound n f =
 abbrev pub filmBlank : Film → Bool
 filmBlank f =
     all (nameBlank (f .name)
-    ∷ zeros (f .layout .turned ∷ f .layout .lines ∷ f .orientation ∷ f .magnification ∷ f .first .0 ∷ [])
+    ∷ zeros (f .layout .kind ∷ f .layout .lines ∷ f .orientation ∷ f .magnification ∷ f .first .0 ∷ [])
     ∷ zeros (f .layout .counts)
     ∷ every boxBlank (f .boxes)
     ∷ [])
@@ -207,15 +208,12 @@ readable Unreadable = false
 readable (Unknown message field) = true
 readable (Known r) = true
 
-abbrev pub commandOf : Input → List ℕ
-commandOf i = take (i .used) (i .command)
-
 -- idle 0, in command 1, skipping command 2, in data 3, skipping data 4; "in data or skipping data with a readable command"
 abbrev pub phaseSound : ℕ → Input → Bool
 phaseSound room i =
     pick (eqb (i .phase) 1) (eqb (i .got) 0)
-    (pick (eqb (i .phase) 3) (both (readable (understood (commandOf i))) (leb (i .got) room))
-    (pick (eqb (i .phase) 4) (both (readable (understood (commandOf i))) (eqb (i .got) 0))
+    (pick (eqb (i .phase) 3) (both (readable (understood (commandHeld i))) (leb (i .got) room))
+    (pick (eqb (i .phase) 4) (both (readable (understood (commandHeld i))) (eqb (i .got) 0))
     (zeros (i .used ∷ i .got ∷ []))))
 
 -- "input fits its buffers"; there is none while not open

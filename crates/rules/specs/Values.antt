@@ -113,9 +113,19 @@ uneven t =
     both (either (same (take 4 t) (chars "ROW\\")) (same (take 4 t) (chars "COL\\")))
     (both (leb (length t) 15) (listed (drop 4 t)))
 
--- "for COL by columns"
-abbrev pub byColumns : List ℕ → Bool
-byColumns v = same (take 4 v) (chars "COL\\")
+-- Which format it is.
+
+abbrev pub kindStandard : ℕ
+kindStandard = 0
+
+abbrev pub kindRow : ℕ
+kindRow = 1
+
+abbrev pub kindCol : ℕ
+kindCol = 2
+
+unfoldable pub kindIn : List ℕ → ℕ
+kindIn v = pick (same (take 4 v) (chars "ROW\\")) kindRow (pick (same (take 4 v) (chars "COL\\")) kindCol kindStandard)
 
 -- ST, read as a layout: how many boxes each line has; none where it is not allowed
 unfoldable pub countsIn : List ℕ → List ℕ

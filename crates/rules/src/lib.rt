@@ -1,5 +1,22 @@
 // The book of printing: the types of the records and of requests. Its definitions stand in specs/; it has no code.
+use headers::Inside;
 use headers::Part;
+
+// How many there are at most: boxes of a film, films, entries; characters of a UID, a label and a root; lines of a layout;
+// bytes of a command.
+pub const BOXES: usize = 36;
+
+pub const FILMS: usize = 8;
+
+pub const ENTRIES: usize = 16;
+
+pub const TEXT: usize = 64;
+
+pub const ROOT: usize = 40;
+
+pub const LINES: usize = 6;
+
+pub const COMMAND: usize = 1024;
 
 // "a film or box serial must not be read as a picture number"
 pub struct Serial(pub u32);
@@ -10,7 +27,7 @@ pub struct Picture(pub u32);
 pub struct Name {
     pub made: Serial,
     pub used: u8,
-    pub text: [u8; 64],
+    pub text: [u8; TEXT],
 }
 
 pub struct Session {
@@ -21,7 +38,7 @@ pub struct Session {
     pub medium: u8,
     pub destination: u8,
     pub used: u8,
-    pub label: [u8; 64],
+    pub label: [u8; TEXT],
 }
 
 // An image box; it is empty where its picture number is 0.
@@ -31,11 +48,11 @@ pub struct ImageBox {
     pub picture: Picture,
 }
 
-// How many boxes each line of a film has. Lines are rows, or, where the layout is turned, columns.
+// The kind of a film's format, and how many boxes each line has. Lines are rows, with COL columns.
 pub struct Layout {
-    pub turned: u8,
+    pub kind: u8,
     pub lines: u8,
-    pub counts: [u8; 6],
+    pub counts: [u8; LINES],
 }
 
 // A film; its boxes have the serials from `first` on.
@@ -45,18 +62,18 @@ pub struct Film {
     pub orientation: u8,
     pub magnification: u8,
     pub first: Serial,
-    pub boxes: [ImageBox; 36],
+    pub boxes: [ImageBox; BOXES],
 }
 
 // The films, in creation order.
 pub struct Shelf {
     pub count: u8,
-    pub films: [Film; 8],
+    pub films: [Film; FILMS],
 }
 
 // "Each queue entry keeps thirty-six picture numbers in position order"
 pub struct Entry {
-    pub pictures: [Picture; 36],
+    pub pictures: [Picture; BOXES],
     pub ticket: u16,
     pub copies: u8,
     pub film: Name,
@@ -65,13 +82,13 @@ pub struct Entry {
 // The queue, oldest entry first.
 pub struct Queue {
     pub count: u8,
-    pub entries: [Entry; 16],
+    pub entries: [Entry; ENTRIES],
 }
 
 // The root, and the next numbers; one past the last where none is left.
 pub struct Numbers {
     pub used: u8,
-    pub root: [u8; 40],
+    pub root: [u8; ROOT],
     pub serial: u64,
     pub picture: u64,
     pub ticket: u16,
@@ -99,7 +116,7 @@ pub struct Input {
     pub phase: u8,
     pub used: u16,
     pub got: u32,
-    pub command: [u8; 1024],
+    pub command: [u8; COMMAND],
 }
 
 pub struct State {
@@ -148,4 +165,57 @@ pub enum Command {
     Unreadable,
     Unknown { message: u16, field: u16 },
     Known(Request),
+}
+
+// The classes that are served, and any other.
+pub enum Class {
+    Verification,
+    Sessions,
+    Films,
+    Boxes,
+    UnknownClass,
+}
+
+// What a UID names: a film by its place, a box by its film's place and its own.
+pub enum Instance {
+    Nobody,
+    TheSession,
+    TheFilm(usize),
+    TheBox { film: usize, place: usize },
+}
+
+// What Image Sequence says: nothing, no item, several, or where the list of its only item stands.
+pub enum Image {
+    Keeps,
+    Erases,
+    TooMany,
+    Fills(Inside),
+}
+
+// "a note: none, how many films were queued, or a picture's number with place and length of its pixels"
+pub enum Note {
+    NoNote,
+    FilmsQueued(u32),
+    PictureAt {
+        number: u32,
+        place: u32,
+        length: u32,
+    },
+}
+
+// What the data set of an answer holds: nothing, or the boxes of a created film, by the first's serial.
+pub enum Contents {
+    Nothing,
+    NewBoxes { first: u32, count: u8 },
+}
+
+// What a request comes to: done or failed, the status, the core afterwards, the instance that the response names (none where it has no
+// characters), the note, and what the answer's data set holds.
+pub struct Verdict {
+    pub done: bool,
+    pub status: u16,
+    pub core: Core,
+    pub instance: Name,
+    pub note: Note,
+    pub contents: Contents,
 }

@@ -11,7 +11,6 @@ use Rattle.strike.specs.Machine.{Answer, refused, done, told, ignored, wait, dr
 use Rattle.rules.specs.Bounds.{reportRoom}
 use Rattle.rules.specs.Commands.{numberIn}
 use Rattle.rules.specs.Responses.{isFailure, Reply}
-use Rattle.rules.specs.Checks.{dataOf}
 use Rattle.rules.specs.Outcomes.{reportBytes, numberOf}
 use Rattle.promises.proofs.Notes.{NoteWithin}
 use Rattle.promises.proofs.ReportBack.{ReportFits}
@@ -48,7 +47,7 @@ pub record Responds (b : Buffers) (r : Reply) (d : DataSet) : Type 0 where
   pub report : reportRoom ≤ length (b .report)
   pub fits : ReportFits r
   pub status : numberIn (r .command) 0x0000_0900 ≡ r .status
-  pub note : NoteWithin (length (dataOf d)) (r .note)
+  pub note : NoteWithin (length (d .bytes)) (r .note)
 
 -- an answer fits what is lent, and says by its number and status what it is
 abbrev pub Proper : Buffers → Answer Reply (List ℕ) → Type 0

@@ -15,17 +15,18 @@ use Rattle.strike.specs.Service as service
 use Rattle.strike.specs.Service.{Call}
 use Rattle.strike.specs.Machine.{Answer, Records, idle}
 use Rattle.octets.specs.Octets.{Bytes}
-use Rattle.rules.specs.Calls.{Handed}
+use Rattle.rules.specs.Calls as book
+use Rattle.rules.specs.Calls.{Lengths, handed}
 use Rattle.rules.specs.Outcomes.{numberOf, opens}
 use Rattle.rules.proofs.Book.{theBook}
 use Rattle.promises.proofs.ListLaws.{each-or, each-told, each-replicate}
 use Rattle.promises.proofs.Good.{Byte}
 use Rattle.promises.proofs.Fakes.{makes}
 use Rattle.promises.proofs.Run.{sets, someData, nonsense, stray}
-use Rattle.runs.specs.Host.{Kept, HostCall, starting, opening, feeding, closing, taking, startHanded, openHanded, nothingHanded, takeHanded, callOf, Shown}
+use Rattle.runs.specs.Host.{Kept, HostCall, starting, opening, feeding, closing, taking, startHanded, openHanded, callOf, Shown}
 use Rattle.runs.specs.Contracts.{byContract, Made, associated}
-use Rattle.rules.specs.Sound.{numbersSound, coreSound, sound}
-use Rattle.rules.specs.Layout.{numbersFormat, coreFormat, stateFormat, recordsSize, unpack}
+use Rattle.rules.specs.Bounds.{entryRoom}
+use Rattle.rules.specs.Layout.{recordsSize}
 use Rattle.runs.specs.Runs.{Store, useless, usable, storeCheck, overBytes, Ran, callsRead, eventsOf, MayStrike, leftOf}
 use Rattle.runs.proofs.Does.{does, shows, does-met}
 use Rattle.runs.proofs.Stored.{useless-view}
@@ -35,7 +36,8 @@ use Rattle.runs.proofs.Same.{fate-shown}
 use Rattle.runs.proofs.StrikeOut.{events-shown}
 use Rattle.rules.specs.Lists.{every}
 use Rattle.rules.specs.Responses.{Reply}
-use Rattle.strike.specs.Messages.{mayBegin, unfinished, roleOfFragment, countAfter, messageOf, cutBy, struck, Event, strikeable, says, isOf, fateOf, roleIf, roleOf, eventOf, historyFrom, history, answers}
+use Rattle.strike.specs.Messages.{Event, strikeable, fateOf, history, answers}
+use Rattle.strike.proofs.Opened.{theMessages}
 
 -- Calls made one after the other, with the buffers handed back.
 
@@ -50,26 +52,15 @@ made-ran k (h ∷ hs) = (record { records = refl; message = λ e. refl }, does-m
 
 -- Message buffers of one length in the whole run, so that the calls are read without making them.
 
-abbrev roomed : ℕ → List ℕ → List ℕ → List ℕ → Handed
-roomed room command dataSet report = record {
-  root = [];
-  serial = 0;
-  picture = 0;
-  context = 0;
-  syntax = 0;
-  message = room;
-  command = length command;
-  dataSet = length dataSet;
-  report = length report;
-  entry = 0;
-}
+abbrev roomed : ℕ → List ℕ → List ℕ → List ℕ → Lengths
+roomed room command dataSet report = record { message = room; command = length command; dataSet = length dataSet; report = length report }
 
-abbrev callIn : ℕ → HostCall → Call Handed
+abbrev callIn : ℕ → HostCall → Call handed
 callIn room (starting root serial picture) = service.start (startHanded root serial picture)
 callIn room (opening message context syntax) = service.opening (openHanded context syntax (length message))
 callIn room (feeding fragment bytes command dataSet report) = service.feed fragment (roomed room command dataSet report)
-callIn room closing = service.close nothingHanded
-callIn room (taking entry) = service.aside (takeHanded (length entry))
+callIn room closing = service.close
+callIn room (taking entry) = service.aside (book.taking (length entry))
 
 abbrev Opens : ℕ → HostCall → Type 0
 Opens room (starting root serial picture) = Unit {0}
@@ -135,7 +126,7 @@ calls =
     ∷ opens-with 0
     ∷ feeds 0 makes (fragment-bytes .0) 256
     ∷ feeds 0 makes (fragment-bytes .0) 256
-    ∷ taking (replicate 212 0)
+    ∷ taking (replicate entryRoom 0)
     ∷ feeds 0 sets (fragment-bytes .1) 256
     ∷ feeds 0 someData (fragment-bytes .2) 255
     ∷ feeds 0 someData (fragment-bytes .2) 256
@@ -152,13 +143,13 @@ callsLeft =
     ∷ starts-fresh
     ∷ opens-with 255
     ∷ feeds 255 makes (fragment-bytes .0) 256
-    ∷ taking (replicate 212 255)
+    ∷ taking (replicate entryRoom 255)
     ∷ feeds 255 sets (fragment-bytes .1) 256
     ∷ feeds 255 someData (fragment-bytes .2) 255
     ∷ feeds 255 someData (fragment-bytes .2) 256
     ∷ []
 
--- 7,080 zero bytes, which are no records
+-- zero bytes, which are no records
 abbrev pub memory : Kept
 memory = record { records = replicate recordsSize 0; message = replicate 4096 0 }
 
@@ -172,10 +163,10 @@ abbrev pub shorter : List Made
 shorter = madeFrom memory callsLeft
 
 -- as the machine reads and answers them
-abbrev asRead : List (Call Handed)
+abbrev asRead : List (Call handed)
 asRead = map (callIn 4096) calls
 
-abbrev asLeft : List (Call Handed)
+abbrev asLeft : List (Call handed)
 asLeft = map (callIn 4096) callsLeft
 
 abbrev noRecords : Records Store
@@ -188,11 +179,11 @@ read-shorter : callsRead shorter ≡ asLeft
 read-shorter = calls-in 4096 memory callsLeft memory-bytes (length-replicate {A = ℕ} 4096 0) (omega arith)
 
 useless-memory : usable (memory .records) ≡ false
-unfolding sound unpack coreSound every numbersSound stateFormat coreFormat numbersFormat
+unfolding theBook
 useless-memory = refl
 
 -- The events of the whole run.
-abbrev pub machineEvents : List (Event Handed Reply (List ℕ))
+abbrev pub machineEvents : List (Event handed Reply (List ℕ))
 machineEvents = history overBytes noRecords asRead
 
 events-read : eventsOf memory whole ≡ machineEvents
@@ -211,7 +202,7 @@ shorter-ran = made-ran memory callsLeft
 pub may-strike : MayStrike memory whole struckOut
 may-strike i h =
     ap strikeable (fate-shown i (eventsOf memory whole) whole (events-shown memory whole memory-bytes whole-ran))
-    ∙ ap (λ (es : List (Event Handed Reply (List ℕ))). strikeable (fateOf i es)) events-read
+    ∙ ap (λ (es : List (Event handed Reply (List ℕ))). strikeable (fateOf i es)) events-read
     ∙ both-true (either (eqb i 2) (ltb 3 i)) (strikeable (fateOf i machineEvents)) h .1
 
 -- the numbers that a run shows
@@ -229,14 +220,14 @@ run-numbers : (hs : List HostCall) → Ran byContract memory (madeFrom memory hs
     → numbers (madeFrom memory hs) ≡ map numberOf (answers overBytes noRecords (map (callIn 4096) hs))
 run-numbers hs ran e =
     numbers-shown (madeFrom memory hs) _ (run-shown memory (madeFrom memory hs) memory-bytes ran .all)
-    ∙ ap₂ (λ (v : Records Store) (cs : List (Call Handed)). map numberOf (answers overBytes v cs)) (useless-view memory useless-memory) e
+    ∙ ap₂ (λ (v : Records Store) (cs : List (Call handed)). map numberOf (answers overBytes v cs)) (useless-view memory useless-memory) e
 
 -- both runs as the machine answers them, and the calls that are left
 computed :
     (map numberOf (answers overBytes noRecords asRead) ≡ 1 ∷ 0 ∷ 0 ∷ 19 ∷ 19 ∷ 6 ∷ 16 ∷ 2 ∷ 16 ∷ 17 ∷ 18 ∷ 16 ∷ 19 ∷ [])
     × (map numberOf (answers overBytes noRecords asLeft) ≡ 1 ∷ 0 ∷ 0 ∷ 19 ∷ 6 ∷ 16 ∷ 2 ∷ 16 ∷ [])
     × (asLeft ≡ leftOf struckOut machineEvents asRead)
-unfolding theBook mayBegin unfinished roleOfFragment countAfter messageOf cutBy struck strikeable says isOf fateOf roleIf roleOf eventOf historyFrom history leftOf answers storeCheck
+unfolding theBook theMessages leftOf storeCheck
 computed = (refl, refl, refl)
 
 pub left-calls : callsRead shorter ≡ leftOf struckOut (eventsOf memory whole) (callsRead whole)

@@ -20,7 +20,7 @@ use Rattle.rules.specs.declared.State.{State}
 use Rattle.rules.specs.Responses.{Reply}
 use Rattle.rules.specs.Sound.{sound}
 use Rattle.rules.specs.Layout.{recordsSize, unpack}
-use Rattle.rules.specs.Calls.{Handed, startRules, check, started, printing}
+use Rattle.rules.specs.Calls.{Starting, startRules, check, started, printing}
 use Rattle.rules.specs.Outcomes.{recordsIn, written, numberOf, Outcome, changed, unchanged, orUnchanged, starts}
 use Rattle.promises.proofs.Calls.{started-sound}
 use Rattle.promises.proofs.SizedAfter.{started-sized}
@@ -37,15 +37,15 @@ use Rattle.runs.proofs.Refusals.{Refusal, check-cases}
 use Rattle.runs.proofs.Stored.{recordsGood, good-usable, good-view}
 
 -- fresh records, of arguments that keep the rules
-abbrev pub fresh : Handed → Records Core
+abbrev pub fresh : Starting → Records Core
 fresh h = record { core = started h; input = idle }
 
-pub record Begun (h : Handed) (r : Records Store) : Type 0 where
+pub record Begun (h : Starting) (r : Records Store) : Type 0 where
   pub rules : Kept (startRules h)
   pub is : r ≡ recordsGood (fresh h)
 
 -- an outcome is that of a step of the machine
-pub record StartRight (h : Handed) (message : List ℕ) (s : Step Store Reply (List ℕ)) (x : Outcome) : Type 0 where
+pub record StartRight (h : Starting) (message : List ℕ) (s : Step Store Reply (List ℕ)) (x : Outcome) : Type 0 where
   pub bytes : Bytes (x .records)
   pub view : viewOf (record { records = x .records; message = message }) ≡ s .records
   pub number : x .number ≡ numberOf (s .answer)
@@ -54,7 +54,7 @@ pub record StartRight (h : Handed) (message : List ℕ) (s : Step Store Reply (L
   pub proper : Proper noBuffers (s .answer)
   pub begun : x .number ≡ 0 → Begun h (s .records)
 
-module _ (b message : List ℕ) (h : Handed) (o : Bytes b) where
+module _ (b message : List ℕ) (h : Starting) (o : Bytes b) where
   abbrev kept : host.Kept
   kept = record { records = b; message = message }
 

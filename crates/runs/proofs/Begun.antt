@@ -11,9 +11,10 @@ use Rattle.strike.specs.Service.{Call, start}
 use Rattle.strike.specs.Machine.{Records, step}
 use Rattle.strike.specs.Messages.{answers, after}
 use Rattle.rules.specs.declared.Core.{Core}
+use Rattle.rules.specs.Bounds.{ticketPlace}
 use Rattle.rules.specs.Records.{entriesOf}
 use Rattle.rules.specs.Sound.{coreSound}
-use Rattle.rules.specs.Calls.{Handed, entryBytes, printing}
+use Rattle.rules.specs.Calls.{Starting, handed, entryBytes, printing}
 use Rattle.rules.specs.Outcomes.{Outcome}
 use Rattle.promises.proofs.Calls.{started-sound}
 use Rattle.promises.proofs.Kept.{run-keeps}
@@ -32,7 +33,7 @@ use Rattle.runs.proofs.Ran.{AllShown, run-shown}
 use Rattle.runs.proofs.Numbers.{NotRefused1, never-refused-1}
 
 -- a run over good records is the book's run
-run-good : (cs : List (Call Handed)) (s : Records Core) → after overBytes (recordsGood s) cs ≡ recordsGood (after printing s cs)
+run-good : (cs : List (Call handed)) (s : Records Core) → after overBytes (recordsGood s) cs ≡ recordsGood (after printing s cs)
 unfolding after
 run-good [] s = refl
 run-good (c ∷ cs) s = ap (λ (r : Records Store). after overBytes r cs) (ap (λ x. x .records) (step-good s c)) ∙ run-good cs (step printing s c .records)
@@ -40,43 +41,43 @@ run-good (c ∷ cs) s = ap (λ (r : Records Store). after overBytes r cs) (ap (�
 -- a start that answers 0, whatever bytes stood there, and a run of calls after it
 module _ (before : List ℕ) (o : Bytes before) (root : List ℕ) (serial picture : ℕ) (k : Kept) (met : StartMet before root serial picture 0 (k .records))
     (ms : List Made) (ran : Ran byContract k ms) where
-  abbrev handed : Handed
-  handed = startHanded root serial picture
+  abbrev given : Starting
+  given = startHanded root serial picture
 
   abbrev left : Kept
   left = lastLeft k ms
 
   -- the book's run
   abbrev book : Core
-  book = after printing (fresh handed) (callsRead ms) .core
+  book = after printing (fresh given) (callsRead ms) .core
 
   abbrev started : Records Store
-  started = step overBytes (viewOf (record { records = before; message = k .message })) (start handed) .records
+  started = step overBytes (viewOf (record { records = before; message = k .message })) (start given) .records
 
-  begun : Begun handed started
-  begun = starts-right before (k .message) handed o .begun (ap (λ (x : Outcome). x .number) (sym met))
+  begun : Begun given started
+  begun = starts-right before (k .message) given o .begun (ap (λ (x : Outcome). x .number) (sym met))
 
-  begun-view : viewOf k ≡ recordsGood (fresh handed)
+  begun-view : viewOf k ≡ recordsGood (fresh given)
   begun-view =
-      subst (λ (x : Outcome). viewOf (record { records = x .records; message = k .message }) ≡ started) (sym met) (starts-right before (k .message) handed o .view)
+      subst (λ (x : Outcome). viewOf (record { records = x .records; message = k .message }) ≡ started) (sym met) (starts-right before (k .message) given o .view)
       ∙ begun .is
 
   begun-bytes : Bytes (k .records)
-  begun-bytes = subst (λ (x : Outcome). Bytes (x .records)) (sym met) (starts-right before (k .message) handed o .bytes)
+  begun-bytes = subst (λ (x : Outcome). Bytes (x .records)) (sym met) (starts-right before (k .message) given o .bytes)
 
   pub begun-core : coreIn left ≡ book
   begun-core =
       let x = run-shown k ms begun-bytes ran in
       sym (store-core (left .records))
-      ∙ ap (λ (r : Records Store). coreOf (r .core)) (x .ended ∙ ap (λ (r : Records Store). after overBytes r (callsRead ms)) begun-view ∙ run-good (callsRead ms) (fresh handed))
+      ∙ ap (λ (r : Records Store). coreOf (r .core)) (x .ended ∙ ap (λ (r : Records Store). after overBytes r (callsRead ms)) begun-view ∙ run-good (callsRead ms) (fresh given))
 
   core-kept : coreSound (coreIn left) ≡ true
-  core-kept = ap coreSound begun-core ∙ run-keeps (fresh handed) (callsRead ms) (started-sound handed (begun .rules))
+  core-kept = ap coreSound begun-core ∙ run-keeps (fresh given) (callsRead ms) (started-sound given (begun .rules))
 
   -- No call is refused for its records.
   pub not-refused-1 : Each NotRefused1 ms
   not-refused-1 =
-      never-refused-1 (callsRead ms) (fresh handed) ms
+      never-refused-1 (callsRead ms) (fresh given) ms
       (subst (λ (r : Records Store). AllShown ms (answers overBytes r (callsRead ms))) begun-view (run-shown k ms begun-bytes ran .all))
 
   -- EVERY BOX HAS A LIVE PARENT, in the records' bytes.
@@ -87,9 +88,9 @@ module _ (before : List ℕ) (o : Bytes before) (root : List ℕ) (serial pictur
   pub live-uids-in-bytes : LiveUidsDiffer (coreIn left)
   live-uids-in-bytes = live-uids-differ (coreIn left) core-kept
 
-  -- TICKETS OF THE SIXTEEN DIFFER: two entries that the queue's bytes hold are written by take with different tickets, bytes 144 and 145.
+  -- TICKETS OF THE SIXTEEN DIFFER: two entries that the queue's bytes hold are written by take with different tickets.
   pub tickets-in-bytes : (i j : ℕ) → i < length (entriesOf (coreIn left .queue)) → j < length (entriesOf (coreIn left .queue)) → (i ≡ j → ⊥)
-      → numberAt 2 (entryBytes (coreIn left .numbers) (entryAt (coreIn left) i)) 144 ≡ numberAt 2 (entryBytes (coreIn left .numbers) (entryAt (coreIn left) j)) 144 → ⊥
+      → numberAt 2 (entryBytes (coreIn left .numbers) (entryAt (coreIn left) i)) ticketPlace ≡ numberAt 2 (entryBytes (coreIn left .numbers) (entryAt (coreIn left) j)) ticketPlace → ⊥
   tickets-in-bytes =
       ticket-bytes-differ (coreIn left) core-kept (unpacked-sized (left .records) (run-shown k ms begun-bytes ran .bytes))
-      (subst Ticketed (sym begun-core) (run-ticketed (fresh handed) (callsRead ms) (started-ticketed handed)))
+      (subst Ticketed (sym begun-core) (run-ticketed (fresh given) (callsRead ms) (started-ticketed given)))

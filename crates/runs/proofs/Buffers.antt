@@ -18,7 +18,7 @@ use Rattle.rules.specs.declared.Core.{Core}
 use Rattle.rules.specs.declared.State.{State}
 use Rattle.rules.specs.Layout.{stateFormat, recordsSize, unpack, pack}
 use Rattle.rules.specs.Sound.{coreSound, inputSound, sound}
-use Rattle.rules.specs.Calls.{Handed}
+use Rattle.rules.specs.Calls.{handed}
 use Rattle.rules.specs.Outcomes.{recordsIn, written, coreWritten}
 use Rattle.rules.proofs.Sizes.{records-size}
 use Rattle.promises.proofs.ListLaws.{each-or, each-append, each-take, each-drop}
@@ -56,7 +56,7 @@ laid-good b s o long fits e =
       kept = ap sound (read-write state-laws s b 0 fits (omega (arith, records-size))) ∙ e;
     }
 
-module _ (b message : List ℕ) (c : Call Handed) (good : RecordsGood b) (bytes : CallBytes c) where
+module _ (b message : List ℕ) (c : Call handed) (good : RecordsGood b) (bytes : CallBytes c) where
   written-good : RecordsGood (written (afterCall b message c) b)
   unfolding written
   written-good =

@@ -5,7 +5,7 @@ use mathlib.Core.List.{List, []}
 use Prim.Native.Nat.{ℕ}
 use lib.ListN.{length}
 use Rattle.rules.specs.Outcomes.{starts, opens, closes, Taking, takes, Feeding, feeds}
-use Rattle.runs.specs.Host.{Kept, HostCall, starting, opening, feeding, closing, taking, startHanded, openHanded, nothingHanded, takeHanded, lent, noBuffers, Shown}
+use Rattle.runs.specs.Host.{Kept, HostCall, starting, opening, feeding, closing, taking, startHanded, openHanded, lent, callOf, noBuffers, Shown}
 use Rattle.runs.specs.Contracts.{byContract, associated, CallMade}
 
 abbrev onRecords : Kept → List ℕ → Kept
@@ -28,15 +28,20 @@ does k (opening message context syntax) =
 does k (feeding fragment bytes command dataSet report) =
     let x = feeds (lent k command dataSet report) fragment in
     record { records = x .records; message = x .message }
-does k closing = onRecords k (closes (k .records) nothingHanded .records)
-does k (taking entry) = onRecords k (takes (k .records) entry (takeHanded (length entry)) .records)
+does k closing = onRecords k (closes (k .records) .records)
+does k (taking entry) = onRecords k (takes (k .records) entry .records)
 
 unfoldable pub shows : Kept → HostCall → Shown
 shows k (starting root serial picture) = numberShown (starts (k .records) (startHanded root serial picture) .number)
 shows k (opening message context syntax) = numberShown (opens (k .records) (openHanded context syntax (length message)) .number)
 shows k (feeding fragment bytes command dataSet report) = fedShown (feeds (lent k command dataSet report) fragment)
-shows k closing = numberShown (closes (k .records) nothingHanded .number)
-shows k (taking entry) = takeShown (takes (k .records) entry (takeHanded (length entry)))
+shows k closing = numberShown (closes (k .records) .number)
+shows k (taking entry) = takeShown (takes (k .records) entry)
+
+-- what a call is read as, leaves and shows, under one name
+unfoldable pub theCall : Unit {0}
+unfolding callOf does shows
+theCall = tt
 
 -- it meets its contract
 pub does-met : (k : Kept) (h : HostCall) → CallMade byContract k h (does k h) (shows k h)

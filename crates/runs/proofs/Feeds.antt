@@ -20,9 +20,9 @@ use Rattle.rules.specs.Bounds.{mostRoom, commandRoom, dataRoom, reportRoom}
 use Rattle.rules.specs.Records.{isOpen}
 use Rattle.rules.specs.Responses.{Reply}
 use Rattle.rules.specs.Sound.{coreSound}
-use Rattle.rules.specs.Checks.{dataOf, decide}
+use Rattle.rules.specs.Checks.{decide}
 use Rattle.rules.specs.Layout.{unpack}
-use Rattle.rules.specs.Calls.{Handed, feedRules, check, reading, printing}
+use Rattle.rules.specs.Calls.{Lengths, feedRules, check, reading, printing}
 use Rattle.rules.specs.Outcomes.{inputIn, recordsIn, written, numberOf, recordsRules, Feeding, Lent, nothingFed, fedOnly, fedFrom, fedTo, lengths, feeds}
 use Rattle.promises.proofs.Facts.{core-facts}
 use Rattle.promises.proofs.Decided.{replyOf}
@@ -72,7 +72,7 @@ unfolding fed
 fed-stays s none = λ e. absurd (clash e refl)
 fed-stays s (some f) = carried-stays s (s .core) (collect reading (s .core .opened .room) (s .input) f)
 
-checked-stays : (x : Check) (s : Records Core) (fragment : List ℕ) (h : Handed) → StepStays s (checked printing x s (feed fragment h))
+checked-stays : (x : Check) (s : Records Core) (fragment : List ℕ) (h : Lengths) → StepStays s (checked printing x s (feed fragment h))
 unfolding checked
 checked-stays (refuses n) s fragment h = λ e. refl
 checked-stays passes s fragment h = fed-stays s (fragmentIn (s .core .opened .context) fragment)
@@ -89,7 +89,7 @@ module _ (l : Lent) (good : RecordsGood (l .records)) (rules : Kept (feedRules (
   core-kept : coreSound core ≡ true
   core-kept = sound-parts (unpack (l .records)) (good .kept) .0
 
-  responds : (c : List ℕ) (d : DataSet) → length (dataOf d) ≤ mostRoom → Responds (buffersOf l) (replyOf (decide core c d)) d
+  responds : (c : List ℕ) (d : DataSet) → length (d .bytes) ≤ mostRoom → Responds (buffersOf l) (replyOf (decide core c d)) d
   responds c d room =
       let lengths = lengths-fit core c d core-kept in
       record {

@@ -12,7 +12,7 @@ use Rattle.strike.specs.Machine.{Fragment, fragmentIn, Outcome, ignores, waits,
 use Rattle.rules.specs.declared.Core.{Core}
 use Rattle.rules.specs.Responses.{Reply}
 use Rattle.rules.specs.Checks.{decide}
-use Rattle.rules.specs.Calls.{Handed, reading, printing}
+use Rattle.rules.specs.Calls.{handed, reading, printing}
 use Rattle.rules.specs.Outcomes.{numberOf}
 use Rattle.promises.proofs.ListLaws.{Each}
 use Rattle.runs.specs.Host.{Shown}
@@ -42,22 +42,22 @@ unfolding fed numberOf
 fed-number s none e = omega (arith, e)
 fed-number s (some f) e = carried-number (s .core) (collect reading (s .core .opened .room) (s .input) f) e
 
-passed-number : (s : Records Core) (c : Call Handed) → NotOne (checked printing passes s c .answer)
+passed-number : (s : Records Core) (c : Call handed) → NotOne (checked printing passes s c .answer)
 unfolding checked numberOf
 passed-number s (start h) e = omega (arith, e)
 passed-number s (service.opening h) e = omega (arith, e)
 passed-number s (feed fragment h) e = fed-number s (fragmentIn (s .core .opened .context) fragment) e
-passed-number s (close h) e = omega (arith, e)
-passed-number s (aside h) e = omega (arith, e)
+passed-number s close e = omega (arith, e)
+passed-number s (aside a) e = omega (arith, e)
 
-step-number : (s : Records Core) (c : Call Handed) → NotOne (step printing s c .answer)
+step-number : (s : Records Core) (c : Call handed) → NotOne (step printing s c .answer)
 unfolding step checked numberOf
 step-number s c = check-cases (s .core) c (λ (x : Check). NotOne (checked printing x s c .answer)) (λ n small e. omega (arith, e)) (λ rules. passed-number s c)
 
 abbrev pub NotRefused1 : Made → Type 0
 NotRefused1 m = m .shown .number ≡ 1 → ⊥
 
-pub never-refused-1 : (cs : List (Call Handed)) (s : Records Core) (ms : List Made) → AllShown ms (answers overBytes (recordsGood s) cs) → Each NotRefused1 ms
+pub never-refused-1 : (cs : List (Call handed)) (s : Records Core) (ms : List Made) → AllShown ms (answers overBytes (recordsGood s) cs) → Each NotRefused1 ms
 unfolding answers AllShown
 never-refused-1 [] s [] x = tt
 never-refused-1 [] s (m ∷ ms) x = absurd x

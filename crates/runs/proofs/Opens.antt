@@ -6,7 +6,6 @@ use Prim.Native.Nat.{ℕ}
 use native.Mathlib.Omega.{arith}
 use borrow.Author.Tests.{eqb-true}
 use lib.Dec.{eqb}
-use Rattle.choice.specs.Rules.{firstOr}
 use Rattle.choice.proofs.Picks.{pick-cases, first-kept}
 use Rattle.strike.specs.Service.{Call, opening, close, Check, passes, refuses}
 use Rattle.strike.specs.Machine as machine
@@ -15,8 +14,8 @@ use Rattle.strike.proofs.Lies.{AnswerLies}
 use Rattle.rules.specs.declared.Core.{Core}
 use Rattle.rules.specs.Responses.{Reply}
 use Rattle.rules.specs.Layout.{unpack}
-use Rattle.rules.specs.Calls.{Handed, check, opened, closed, printing}
-use Rattle.rules.specs.Outcomes.{inputIn, recordsIn, numberOf, recordsRules, Outcome, changed, unchanged, orUnchanged, opens, closes}
+use Rattle.rules.specs.Calls.{Opening, handed, check, opened, closed, printing}
+use Rattle.rules.specs.Outcomes.{inputIn, recordsIn, numberOf, recordsRules, Outcome, changed, unchanged, orUnchanged, called, opens, closes}
 use Rattle.promises.proofs.Unpacked.{CallBytes}
 use Rattle.promises.proofs.Next.{afterCall}
 use Rattle.runs.specs.Host.{noBuffers}
@@ -35,7 +34,7 @@ pub record OutcomeRight (message : List ℕ) (s : Step Core Reply (List ℕ)) (x
   pub proper : Proper noBuffers (s .answer)
 
 -- a call that, once passed, leaves a core and no message half collected
-module _ (b message : List ℕ) (c : Call Handed) (good : RecordsGood b) (bytes : CallBytes c) (left : Core)
+module _ (b message : List ℕ) (c : Call handed) (good : RecordsGood b) (bytes : CallBytes c) (left : Core)
     (leaving : (i : machine.Input) → checked printing passes (record { core = unpack b .core; input = i }) c ≡ leaves left idle done) where
   abbrev Right : Check → Type 0
   Right x = OutcomeRight message (checked printing x (recordsIn (unpack b) message) c) (orUnchanged b (checked printing x (recordsIn (unpack b) []) c))
@@ -72,18 +71,20 @@ module _ (b message : List ℕ) (c : Call Handed) (good : RecordsGood b) (bytes 
   outcome-right =
       check-cases (unpack b .core) c (λ (x : Check). check (unpack b .core) c ≡ x → Right x) (λ n h e. right-refused n h) (λ r e. right-passed e) refl
 
-module _ (b message : List ℕ) (h : Handed) (good : RecordsGood b) where
-  abbrev RightCall : Call Handed → Outcome → Type 0
+  -- they look at the records first
+  called-right : OutcomeRight message (step printing (recordsIn (unpack b) message) c) (called (recordsRules b) b c)
+  called-right =
+      subst (OutcomeRight message (step printing (recordsIn (unpack b) message) c))
+      (sym (first-kept (unchanged b) (recordsRules b) (orUnchanged b (step printing (recordsIn (unpack b) []) c)) (records-accepted b good))) outcome-right
+
+module _ (b message : List ℕ) (good : RecordsGood b) where
+  abbrev RightCall : Call handed → Outcome → Type 0
   RightCall c x = OutcomeRight message (step printing (recordsIn (unpack b) message) c) x
 
-  -- they look at the records first
-  accepted : (c : Call Handed) → RightCall c (orUnchanged b (step printing (recordsIn (unpack b) []) c)) → RightCall c (firstOr (unchanged b) (recordsRules b) (orUnchanged b (step printing (recordsIn (unpack b) []) c)))
-  accepted c x = subst (RightCall c) (sym (first-kept (unchanged b) (recordsRules b) (orUnchanged b (step printing (recordsIn (unpack b) []) c)) (records-accepted b good))) x
-
-  pub opens-right : RightCall (opening h) (opens b h)
+  pub opens-right : (h : Opening) → RightCall (opening h) (opens b h)
   unfolding opens checked
-  opens-right = accepted (opening h) (outcome-right b message (opening h) good tt (opened (unpack b .core) h) (λ i. refl))
+  opens-right h = called-right b message (opening h) good tt (opened (unpack b .core) h) (λ i. refl)
 
-  pub closes-right : RightCall (close h) (closes b h)
+  pub closes-right : RightCall close (closes b)
   unfolding closes checked
-  closes-right = accepted (close h) (outcome-right b message (close h) good tt (closed (unpack b .core)) (λ i. refl))
+  closes-right = called-right b message close good tt (closed (unpack b .core)) (λ i. refl)

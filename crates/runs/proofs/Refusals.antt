@@ -15,7 +15,7 @@ use Rattle.strike.specs.Service.{Call, start, opening, feed, close, aside, Chec
 use Rattle.rules.specs.declared.Core.{Core}
 use Rattle.rules.specs.Sound.{sound}
 use Rattle.rules.specs.Layout.{recordsSize, unpack}
-use Rattle.rules.specs.Calls.{Handed, rulesOf, check}
+use Rattle.rules.specs.Calls.{taking, handed, rulesOf, check}
 use Rattle.rules.specs.Outcomes.{recordsRules}
 use Rattle.promises.proofs.NextCalls.{no-refusal}
 use Rattle.runs.specs.Runs.{usable}
@@ -50,19 +50,27 @@ abbrev Numbered : List Rule → Type 0
 Numbered [] = Unit {0}
 Numbered ((broken ⇒ n) ∷ rules) = Refusal n × Numbered rules
 
-numbered-cases : (P : Check → Type 0) (rules : List Rule) → Numbered rules → ((n : ℕ) → Refusal n → P (refuses n)) → (Kept rules → P passes) → P (firstOr refuses rules passes)
-numbered-cases P [] h f g = g tt
-numbered-cases P ((true ⇒ n) ∷ rules) h f g = f n (h .0)
-numbered-cases P ((false ⇒ n) ∷ rules) h f g = numbered-cases P rules (h .1) f (λ k. g (refl, k))
+module _ {A : Type 0} (P : Check → A → Type 0) (refused : ℕ → A) (kept : A) where
+  numbered-cases : (rules : List Rule) → Numbered rules → ((n : ℕ) → Refusal n → P (refuses n) (refused n)) → (Kept rules → P passes kept)
+      → P (firstOr refuses rules passes) (firstOr refused rules kept)
+  numbered-cases [] h f g = g tt
+  numbered-cases ((true ⇒ n) ∷ rules) h f g = f n (h .0)
+  numbered-cases ((false ⇒ n) ∷ rules) h f g = numbered-cases rules (h .1) f (λ k. g (refl, k))
 
-all-numbered : (k : Core) (c : Call Handed) → Numbered (rulesOf k c)
+all-numbered : (k : Core) (c : Call handed) → Numbered (rulesOf k c)
 all-numbered k (start h) = omega arith
 all-numbered k (opening h) = omega arith
 all-numbered k (feed bytes h) = omega arith
-all-numbered k (close h) = omega arith
-all-numbered k (aside h) = omega arith
+all-numbered k close = omega arith
+all-numbered k (aside (taking entry)) = omega arith
 
 -- a call is refused with such a number, or keeps its rules
-pub check-cases : (k : Core) (c : Call Handed) (P : Check → Type 0) → ((n : ℕ) → Refusal n → P (refuses n)) → (Kept (rulesOf k c) → P passes) → P (check k c)
+pub check-cases : (k : Core) (c : Call handed) (P : Check → Type 0) → ((n : ℕ) → Refusal n → P (refuses n)) → (Kept (rulesOf k c) → P passes) → P (check k c)
 unfolding check
-check-cases k c P f g = numbered-cases P (rulesOf k c) (all-numbered k c) f g
+check-cases k c P f g = numbered-cases (λ x y. P x) refuses passes (rulesOf k c) (all-numbered k c) f g
+
+-- the same with what its rules give beside the machine's check
+pub outcome-cases : {A : Type 0} (k : Core) (c : Call handed) (P : Check → A → Type 0) (refused : ℕ → A) (kept : A)
+    → ((n : ℕ) → Refusal n → P (refuses n) (refused n)) → (Kept (rulesOf k c) → P passes kept) → P (check k c) (firstOr refused (rulesOf k c) kept)
+unfolding check
+outcome-cases k c P refused kept f g = numbered-cases P refused kept (rulesOf k c) (all-numbered k c) f g

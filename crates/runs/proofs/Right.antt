@@ -17,12 +17,13 @@ use Rattle.strike.proofs.Lies.{AnswerLies}
 use Rattle.rules.specs.declared.Core.{Core}
 use Rattle.rules.specs.Responses.{Reply}
 use Rattle.rules.specs.Layout.{unpack}
-use Rattle.rules.specs.Calls.{Handed, printing}
+use Rattle.rules.specs.Calls as calls
+use Rattle.rules.specs.Calls.{handed, printing}
 use Rattle.rules.specs.Outcomes.{recordsIn, recordsRules, numberOf, Outcome, unchanged, opens, closes, Taking, nothingTaken, takes, Feeding, nothingFed, feeds}
-use Rattle.runs.specs.Host.{Kept, HostCall, starting, opening, feeding, closing, taking, startHanded, openHanded, nothingHanded, takeHanded, lent, callOf, noBuffers, lentBy, Shown}
+use Rattle.runs.specs.Host.{Kept, HostCall, starting, opening, feeding, closing, taking, startHanded, openHanded, lent, callOf, noBuffers, lentBy, Shown}
 use Rattle.runs.specs.Contracts.{byContract, associated, CallMade}
 use Rattle.runs.specs.Runs.{Store, useless, usable, storeCheck, overBytes, viewOf}
-use Rattle.runs.proofs.Does.{numberShown, takeShown, fedShown, does, shows, met-does, met-shows}
+use Rattle.runs.proofs.Does.{numberShown, takeShown, fedShown, does, shows, theCall, met-does, met-shows}
 use Rattle.runs.proofs.Answers.{writtenBy, shownOf, Proper}
 use Rattle.runs.proofs.Buffers.{RecordsGood}
 use Rattle.runs.proofs.Refusals.{Broken, useless-broken}
@@ -54,18 +55,18 @@ module _ (k : Kept) (g : RecordsGood (k .records)) where
   abbrev before : Records Core
   before = recordsIn (unpack (k .records)) (k .message)
 
-  good-step : (c : Call Handed) → step overBytes (viewOf k) c ≡ stepGood (step printing before c)
+  good-step : (c : Call handed) → step overBytes (viewOf k) c ≡ stepGood (step printing before c)
   good-step c = ap (λ (v : Records Store). step overBytes v c) (good-view k (good-usable (k .records) g)) ∙ step-good before c
 
   left-view : (l : Kept) (r : Records Core) → RecordsGood (l .records) → recordsIn (unpack (l .records)) (l .message) ≡ r → viewOf l ≡ recordsGood r
   left-view l r good e = good-view l (good-usable (l .records) good) ∙ ap recordsGood e
 
   open-good : (message : List ℕ) (context syntax : ℕ) → Stepped (stepOf k (opening message context syntax)) (opening message context syntax) (does k (opening message context syntax)) (shows k (opening message context syntax))
-  unfolding callOf does shows
+  unfolding theCall
   open-good message context syntax =
       let c = service.opening (openHanded context syntax (length message)) in
       let o = opens (k .records) (openHanded context syntax (length message)) in
-      let x = opens-right (k .records) (k .message) (openHanded context syntax (length message)) g in
+      let x = opens-right (k .records) (k .message) g (openHanded context syntax (length message)) in
       rw (good-step c)
       (record {
         bytes = x .good .bytes;
@@ -78,35 +79,35 @@ module _ (k : Kept) (g : RecordsGood (k .records)) where
       })
 
   close-good : Stepped (stepOf k closing) closing (does k closing) (shows k closing)
-  unfolding callOf does shows
+  unfolding theCall
   close-good =
-      let c = service.close nothingHanded in
-      let x = closes-right (k .records) (k .message) nothingHanded g in
+      let c = service.close in
+      let x = closes-right (k .records) (k .message) g in
       rw (good-step c)
       (record {
         bytes = x .good .bytes;
-        view = left-view (record { records = closes (k .records) nothingHanded .records; message = k .message }) _ (x .good) (x .view);
-        same = quiet-shown (closes (k .records) nothingHanded .number) (step printing before c .answer) (x .number) (x .quiet);
+        view = left-view (record { records = closes (k .records) .records; message = k .message }) _ (x .good) (x .view);
+        same = quiet-shown (closes (k .records) .number) (step printing before c .answer) (x .number) (x .quiet);
         lies = x .lies _;
         proper = x .proper;
       })
 
   take-good : (entry : List ℕ) → Stepped (stepOf k (taking entry)) (taking entry) (does k (taking entry)) (shows k (taking entry))
-  unfolding callOf does shows
+  unfolding theCall
   take-good entry =
-      let c = service.aside (takeHanded (length entry)) in
+      let c = service.aside (calls.taking (length entry)) in
       let x = takes-right (k .records) (k .message) entry g in
       rw (good-step c)
       (record {
         bytes = x .good .bytes;
-        view = left-view (record { records = takes (k .records) entry (takeHanded (length entry)) .records; message = k .message }) _ (x .good) (x .view);
+        view = left-view (record { records = takes (k .records) entry .records; message = k .message }) _ (x .good) (x .view);
         same = x .same;
         lies = x .lies;
         proper = x .proper;
       })
 
   feed-good : (fragment : List ℕ) (bytes : Bytes fragment) (command dataSet report : List ℕ) → Stepped (stepOf k (feeding fragment bytes command dataSet report)) (feeding fragment bytes command dataSet report) (does k (feeding fragment bytes command dataSet report)) (shows k (feeding fragment bytes command dataSet report))
-  unfolding callOf does shows
+  unfolding theCall
   feed-good fragment bytes command dataSet report =
       let x = feeds-right (lent k command dataSet report) fragment g bytes in
       let f = feeds (lent k command dataSet report) fragment in
@@ -119,6 +120,11 @@ module _ (k : Kept) (g : RecordsGood (k .records)) where
         proper = x .proper;
       })
 
+-- the same with how it is refused
+unfoldable theCalls : Unit {0}
+unfolding theCall storeCheck numberOf
+theCalls = tt
+
 -- Over useless bytes every call but start is refused, and changes nothing.
 
 module _ (k : Kept) (o : Bytes (k .records)) (useless-records : usable (k .records) ≡ false) where
@@ -128,7 +134,7 @@ module _ (k : Kept) (o : Bytes (k .records)) (useless-records : usable (k .recor
   abbrev refusal : Step Store Reply (List ℕ)
   refusal = record { records = record { core = useless (k .records); input = idle }; answer = refused (broken .number) }
 
-  refused-step : (c : Call Handed) → storeCheck (useless (k .records)) c ≡ refuses (broken .number) → step overBytes (viewOf k) c ≡ refusal
+  refused-step : (c : Call handed) → storeCheck (useless (k .records)) c ≡ refuses (broken .number) → step overBytes (viewOf k) c ≡ refusal
   unfolding step checked
   refused-step c e =
       ap (λ (v : Records Store). step overBytes v c) (useless-view k useless-records)
@@ -138,7 +144,7 @@ module _ (k : Kept) (o : Bytes (k .records)) (useless-records : usable (k .recor
   useless-right h e d s = rw (refused-step (callOf k h) e, d, s) (record { bytes = o; view = useless-view k useless-records; same = refl; lies = tt; proper = omega (arith, broken .small) })
 
   open-useless : (message : List ℕ) (context syntax : ℕ) → Stepped (stepOf k (opening message context syntax)) (opening message context syntax) (does k (opening message context syntax)) (shows k (opening message context syntax))
-  unfolding callOf does shows opens storeCheck numberOf
+  unfolding theCalls opens
   open-useless message context syntax =
       let e = broken .gives (unchanged (k .records)) in
       useless-right (opening message context syntax) (broken .gives refuses passes)
@@ -147,7 +153,7 @@ module _ (k : Kept) (o : Bytes (k .records)) (useless-records : usable (k .recor
       (ap (λ (x : Outcome). numberShown (x .number)) (e _))
 
   close-useless : Stepped (stepOf k closing) closing (does k closing) (shows k closing)
-  unfolding callOf does shows closes storeCheck numberOf
+  unfolding theCalls closes
   close-useless =
       let e = broken .gives (unchanged (k .records)) in
       useless-right closing (broken .gives refuses passes)
@@ -155,7 +161,7 @@ module _ (k : Kept) (o : Bytes (k .records)) (useless-records : usable (k .recor
       (ap (λ (x : Outcome). numberShown (x .number)) (e _))
 
   take-useless : (entry : List ℕ) → Stepped (stepOf k (taking entry)) (taking entry) (does k (taking entry)) (shows k (taking entry))
-  unfolding callOf does shows takes storeCheck numberOf
+  unfolding theCalls takes
   take-useless entry =
       let e = broken .gives (nothingTaken (k .records) entry) in
       useless-right (taking entry) (broken .gives refuses passes)
@@ -163,7 +169,7 @@ module _ (k : Kept) (o : Bytes (k .records)) (useless-records : usable (k .recor
       (ap takeShown (e _))
 
   feed-useless : (fragment : List ℕ) (bytes : Bytes fragment) (command dataSet report : List ℕ) → Stepped (stepOf k (feeding fragment bytes command dataSet report)) (feeding fragment bytes command dataSet report) (does k (feeding fragment bytes command dataSet report)) (shows k (feeding fragment bytes command dataSet report))
-  unfolding callOf does shows feeds storeCheck numberOf
+  unfolding theCalls feeds
   feed-useless fragment bytes command dataSet report =
       let e = broken .gives (nothingFed (lent k command dataSet report)) in
       useless-right (feeding fragment bytes command dataSet report) (broken .gives refuses passes)
@@ -178,7 +184,7 @@ module _ (k : Kept) (o : Bytes (k .records)) where
   either-way h f g false e = g e
 
   start-steps : (root : List ℕ) (serial picture : ℕ) → Stepped (stepOf k (starting root serial picture)) (starting root serial picture) (does k (starting root serial picture)) (shows k (starting root serial picture))
-  unfolding callOf does shows
+  unfolding theCall
   start-steps root serial picture =
       let x = starts-right (k .records) (k .message) (startHanded root serial picture) o in
       record { bytes = x .bytes; view = x .view; same = quiet-shown _ _ (x .number) (x .quiet); lies = x .lies; proper = x .proper }

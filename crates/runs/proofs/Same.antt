@@ -12,14 +12,15 @@ use lib.Seq.{take-take, take-append-seam}
 use Rattle.choice.specs.Pick.{pick}
 use Rattle.octets.specs.Octets.{numberAt, part, laid}
 use Rattle.octets.proofs.Laid.{laid-stands}
-use Rattle.strike.specs.Service.{DataSet, noData, whole, tooLong}
+use Rattle.strike.specs.Service.{DataSet}
 use Rattle.strike.specs.Machine.{Answer, refused, done, told, ignored, wait, dropped, failure, success}
 use Rattle.strike.specs.Messages.{Event, Fate, wasCutOff, failed, succeeded, says, isOf, answersOf, fateOf}
 use Rattle.strike.proofs.Lies.{DataLies, AnswerLies}
 use Rattle.rules.specs.Commands.{numberIn}
-use Rattle.rules.specs.Responses.{Note, noNote, filmsQueued, pictureAt, isFailure, Reply}
-use Rattle.rules.specs.Checks.{dataOf}
-use Rattle.rules.specs.Calls.{Handed}
+use Rattle.rules.specs.declared.Note.{Note}
+use Rattle.rules.specs.declared.Note.the-variants.{NoNote, FilmsQueued, PictureAt}
+use Rattle.rules.specs.Responses.{isFailure, Reply}
+use Rattle.rules.specs.Calls.{handed}
 use Rattle.rules.specs.Outcomes.{numberOf, reportBytes}
 use Rattle.promises.proofs.Notes.{NoteWithin}
 use Rattle.promises.proofs.ReportBack.{ReportMeans, report-length, report-reads}
@@ -67,16 +68,11 @@ part-front : (s d : List ℕ) (from size : ℕ) → take (length d) s ≡ d → 
 part-front s d from size e h =
     sym (within-front from (from + size - from) (length d) s (omega arith)) ∙ ap (λ (x : List ℕ). take (from + size - from) (drop from x)) e
 
-data-lies : (d : DataSet) (message : List ℕ) → DataLies d message → take (length (dataOf d)) message ≡ dataOf d
-data-lies noData message h = refl
-data-lies (whole d) message h = h
-data-lies tooLong message h = refl
-
 -- what a note covers of a data set
 abbrev covered : Note → List ℕ → List ℕ
-covered noNote d = []
-covered (filmsQueued n) d = []
-covered (pictureAt n place size) d = part d place (place + size)
+covered NoNote d = []
+covered (FilmsQueued n) d = []
+covered (PictureAt n place size) d = part d place (place + size)
 
 abbrev coveredBy : Answer Reply (List ℕ) → List ℕ
 coveredBy (refused n) = []
@@ -85,19 +81,19 @@ coveredBy (told entry) = []
 coveredBy ignored = []
 coveredBy wait = []
 coveredBy dropped = []
-coveredBy (failure r d) = covered (r .note) (dataOf d)
-coveredBy (success r d) = covered (r .note) (dataOf d)
+coveredBy (failure r d) = covered (r .note) (d .bytes)
+coveredBy (success r d) = covered (r .note) (d .bytes)
 
 -- a report that tells of a note, and a message buffer in which the data set lies
 note-covers : (report message d : List ℕ) (r : Reply) (note : Note) → r .note ≡ note → ReportMeans report r → NoteWithin (length d) note → take (length d) message ≡ d
     → pick (eqb (numberAt 2 report 6) 2) (part message (numberAt 4 report 12) (numberAt 4 report 12 + numberAt 4 report 16)) [] ≡ covered note d
-note-covers report message d r noNote e m w lies = rw (m .kind, e)
-note-covers report message d r (filmsQueued n) e m w lies = rw (m .kind, e)
-note-covers report message d r (pictureAt n place size) e m w lies = rw (m .kind, m .second, m .third, e) (part-front message d place size lies (w .2))
+note-covers report message d r NoNote e m w lies = rw (m .kind, e)
+note-covers report message d r (FilmsQueued n) e m w lies = rw (m .kind, e)
+note-covers report message d r (PictureAt n place size) e m w lies = rw (m .kind, m .second, m .third, e) (part-front message d place size lies (w .2))
 
-reply-covers : (h : HostCall) (r : Reply) (d : DataSet) (message : List ℕ) → Responds (lentBy h) r d → DataLies d message → pixelsIn (shownOf h (success r d)) message ≡ covered (r .note) (dataOf d)
+reply-covers : (h : HostCall) (r : Reply) (d : DataSet) (message : List ℕ) → Responds (lentBy h) r d → DataLies d message → pixelsIn (shownOf h (success r d)) message ≡ covered (r .note) (d .bytes)
 unfolding numberOf
-reply-covers h r d message p lies = note-covers _ message (dataOf d) r (r .note) refl (report-in (lentBy h) r d p) (p .note) (data-lies d message lies)
+reply-covers h r d message p lies = note-covers _ message (d .bytes) r (r .note) refl (report-in (lentBy h) r d p) (p .note) lies
 
 pixels-covered : (h : HostCall) (a : Answer Reply (List ℕ)) (message : List ℕ) → Proper (lentBy h) a → AnswerLies a message → pixelsIn (shownOf h a) message ≡ coveredBy a
 unfolding numberOf
@@ -163,7 +159,7 @@ fate-told h dropped later p = refl
 fate-told h (failure r d) later p = ap (λ (n : ℕ). pick (isFailure n) failed succeeded) (reply-status h r d (p .0)) ∙ ap (λ (t : Bool). pick t failed succeeded) (p .1)
 fate-told h (success r d) later p = ap (λ (n : ℕ). pick (isFailure n) failed succeeded) (reply-status h r d (p .0)) ∙ ap (λ (t : Bool). pick t failed succeeded) (p .1)
 
-pub fate-shown : (i : ℕ) (es : List (Event Handed Reply (List ℕ))) (ms : List Made) → AllShown ms (answersOf es) → fateShown i es ms ≡ fateOf i es
+pub fate-shown : (i : ℕ) (es : List (Event handed Reply (List ℕ))) (ms : List Made) → AllShown ms (answersOf es) → fateShown i es ms ≡ fateOf i es
 unfolding AllShown fateShown fateOf
 fate-shown i [] ms x = refl
 fate-shown i (e ∷ es) [] x = absurd x

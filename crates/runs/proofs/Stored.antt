@@ -8,7 +8,7 @@ use Prim.Native.Nat.{ℕ}
 use borrow.Author.Tests.{leb-true, le-leb}
 use lib.Dec.{leb}
 use lib.ListN.{length}
-use Rattle.choice.specs.Pick.{pick, not}
+use Rattle.choice.specs.Pick.{pick}
 use Rattle.choice.proofs.Picks.{both-true, both-holds}
 use Rattle.octets.specs.Octets.{Bytes}
 use Rattle.strike.specs.Service as service
@@ -19,7 +19,7 @@ use Rattle.rules.specs.Responses.{Reply}
 use Rattle.rules.specs.Sound.{sound}
 use Rattle.rules.specs.Layout.{recordsSize, unpack}
 use Rattle.rules.specs.Checks.{decide}
-use Rattle.rules.specs.Calls.{Handed, check, reading, printing}
+use Rattle.rules.specs.Calls.{handed, check, reading, printing}
 use Rattle.rules.specs.Outcomes.{recordsIn}
 use Rattle.runs.specs.Host.{Kept}
 use Rattle.runs.specs.Runs.{Store, good, useless, usable, storeIn, storeCheck, resultGood, overBytes, viewOf}
@@ -50,16 +50,16 @@ unfolding fed
 fed-good s none = refl
 fed-good s (some f) = carried-good (s .core) (collect reading (s .core .opened .room) (s .input) f)
 
-checked-good : (x : Check) (s : Records Core) (c : Call Handed) → checked overBytes x (recordsGood s) c ≡ stepGood (checked printing x s c)
+checked-good : (x : Check) (s : Records Core) (c : Call handed) → checked overBytes x (recordsGood s) c ≡ stepGood (checked printing x s c)
 unfolding checked
 checked-good (refuses n) s c = refl
 checked-good passes s (start h) = refl
 checked-good passes s (service.opening h) = refl
 checked-good passes s (feed bytes h) = fed-good s (fragmentIn (s .core .opened .context) bytes)
-checked-good passes s (close h) = refl
+checked-good passes s close = refl
 checked-good passes s (aside h) = refl
 
-pub step-good : (s : Records Core) (c : Call Handed) → step overBytes (recordsGood s) c ≡ stepGood (step printing s c)
+pub step-good : (s : Records Core) (c : Call handed) → step overBytes (recordsGood s) c ≡ stepGood (step printing s c)
 unfolding step storeCheck check
 step-good s c = checked-good (check (s .core) c) s c
 

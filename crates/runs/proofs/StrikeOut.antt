@@ -13,7 +13,7 @@ use Rattle.strike.specs.Messages.{Count, countAfter, Event, struck, without, ca
 use Rattle.strike.proofs.Fate.{strike-out}
 use Rattle.strike.proofs.Refine.{history-answers}
 use Rattle.rules.specs.Responses.{Reply}
-use Rattle.rules.specs.Calls.{Handed}
+use Rattle.rules.specs.Calls.{handed}
 use Rattle.runs.specs.Host.{Kept}
 use Rattle.runs.specs.Contracts.{byContract, Made}
 use Rattle.runs.specs.Runs.{Store, overBytes, viewOf, coreIn, Ran, lastLeft, callsRead, eventsOf, SameAnswer, Pairwise, leftOf, StrikeOut}
@@ -22,15 +22,15 @@ use Rattle.runs.proofs.Ran.{AllShown, run-shown}
 use Rattle.runs.proofs.Same.{same-answer, fate-shown}
 
 abbrev Events : Type 0
-Events = List (Event Handed Reply (List ℕ))
+Events = List (Event handed Reply (List ℕ))
 
 -- The calls that are left, and what they show.
 
-calls-if : (b : Bool) (c : Call Handed) (cs : List (Call Handed)) (e : Event Handed Reply (List ℕ)) (es : Events) → c ≡ e .call → cs ≡ callsOf es → pick b cs (c ∷ cs) ≡ callsOf (pick b es (e ∷ es))
+calls-if : (b : Bool) (c : Call handed) (cs : List (Call handed)) (e : Event handed Reply (List ℕ)) (es : Events) → c ≡ e .call → cs ≡ callsOf es → pick b cs (c ∷ cs) ≡ callsOf (pick b es (e ∷ es))
 calls-if true c cs e es p q = q
 calls-if false c cs e es p q = rw (p, q)
 
-calls-left : (S : ℕ → Bool) (cs : List (Call Handed)) (r : Records Store) (n : Count) → leftOf S (historyFrom overBytes r n cs) cs ≡ callsOf (without S (historyFrom overBytes r n cs))
+calls-left : (S : ℕ → Bool) (cs : List (Call handed)) (r : Records Store) (n : Count) → leftOf S (historyFrom overBytes r n cs) cs ≡ callsOf (without S (historyFrom overBytes r n cs))
 unfolding leftOf without historyFrom eventOf
 calls-left S [] r n = refl
 calls-left S (c ∷ cs) r n =
@@ -38,7 +38,7 @@ calls-left S (c ∷ cs) r n =
     let es = historyFrom overBytes (step overBytes r c .records) (countAfter (roleOf overBytes r c) n) cs in
     calls-if (struck S (e .message)) c (leftOf S es cs) e (without S es) refl (calls-left S cs (step overBytes r c .records) (countAfter (roleOf overBytes r c) n))
 
-shown-if : (b : Bool) (m : Made) (ms : List Made) (e : Event Handed Reply (List ℕ)) (es : Events) → AllShown (m ∷ []) (e .answer ∷ []) → AllShown ms (answersOf es) → AllShown (pick b ms (m ∷ ms)) (answersOf (pick b es (e ∷ es)))
+shown-if : (b : Bool) (m : Made) (ms : List Made) (e : Event handed Reply (List ℕ)) (es : Events) → AllShown (m ∷ []) (e .answer ∷ []) → AllShown ms (answersOf es) → AllShown (pick b ms (m ∷ ms)) (answersOf (pick b es (e ∷ es)))
 unfolding AllShown
 shown-if true m ms e es x y = y
 shown-if false m ms e es x y = (x .0, y)
@@ -87,6 +87,6 @@ contracts-strike-out k o whole struck ran left S may calls =
       same-answers = paired (leftOf S es whole) struck (answersOf (without S es)) (shown-left S es whole all) rest;
       same-core =
           core-ended (lastLeft k struck) _ (X .ended)
-          ∙ ap coreOf (ap (λ (cs : List (Call Handed)). after overBytes (viewOf k) cs .core) read ∙ same .same-core)
+          ∙ ap coreOf (ap (λ (cs : List (Call handed)). after overBytes (viewOf k) cs .core) read ∙ same .same-core)
           ∙ sym (core-ended (lastLeft k whole) _ (W .ended));
     }

@@ -7,7 +7,7 @@ use lib.Dec.{eqb}
 use lib.ListN.{length}
 use Rattle.choice.specs.Pick.{pick}
 use Rattle.rules.specs.Outcomes.{starts, opens, closes, takes, Lent, feeds}
-use Rattle.runs.specs.Host.{Kept, HostCall, starting, opening, feeding, closing, taking, startHanded, openHanded, nothingHanded, takeHanded, lent, noBuffers, Shown}
+use Rattle.runs.specs.Host.{Kept, HostCall, starting, opening, feeding, closing, taking, startHanded, openHanded, lent, noBuffers, Shown}
 
 abbrev pub StartMet : (before root : List ℕ) (serial picture r : ℕ) (after : List ℕ) → Type 0
 StartMet before root serial picture r after = record { number = r; records = after } ≡ starts before (startHanded root serial picture)
@@ -21,10 +21,10 @@ FeedMet before fragment r after =
     ≡ feeds before fragment
 
 abbrev pub CloseMet : (before : List ℕ) (r : ℕ) (after : List ℕ) → Type 0
-CloseMet before r after = record { number = r; records = after } ≡ closes before nothingHanded
+CloseMet before r after = record { number = r; records = after } ≡ closes before
 
 abbrev pub TakeMet : (before entry : List ℕ) (r : ℕ) (after entryAfter : List ℕ) → Type 0
-TakeMet before entry r after entryAfter = record { number = r; records = after; entry = entryAfter } ≡ takes before entry (takeHanded (length entry))
+TakeMet before entry r after entryAfter = record { number = r; records = after; entry = entryAfter } ≡ takes before entry
 
 -- What is known of a call that was made, for each of the five: of what it was given, the number returned, and the buffers afterwards.
 pub record Known : Type 1 where

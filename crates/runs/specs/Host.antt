@@ -5,7 +5,8 @@ use lib.ListN.{length}
 use Rattle.octets.specs.Octets.{Bytes}
 use Rattle.strike.specs.Service as service
 use Rattle.strike.specs.Service.{Call}
-use Rattle.rules.specs.Calls.{Handed}
+use Rattle.rules.specs.Calls as calls
+use Rattle.rules.specs.Calls.{Starting, Opening, handed}
 use Rattle.rules.specs.Outcomes.{Lent, lengths}
 
 -- the records' bytes and the message buffer's
@@ -23,30 +24,24 @@ pub data HostCall : Type 0 where
   closing : HostCall
   taking : List ℕ → HostCall
 
--- What is handed over beside the records and a fragment; what a call does not have is 0.
+-- What is handed over with a start and with an open.
 
-abbrev pub startHanded : List ℕ → ℕ → ℕ → Handed
-startHanded root serial picture = record { root = root; serial = serial; picture = picture; context = 0; syntax = 0; message = 0; command = 0; dataSet = 0; report = 0; entry = 0 }
+abbrev pub startHanded : List ℕ → ℕ → ℕ → Starting
+startHanded root serial picture = record { root = root; serial = serial; picture = picture }
 
-abbrev pub openHanded : ℕ → ℕ → ℕ → Handed
-openHanded context syntax message = record { root = []; serial = 0; picture = 0; context = context; syntax = syntax; message = message; command = 0; dataSet = 0; report = 0; entry = 0 }
-
-abbrev pub nothingHanded : Handed
-nothingHanded = openHanded 0 0 0
-
-abbrev pub takeHanded : ℕ → Handed
-takeHanded entry = record { root = []; serial = 0; picture = 0; context = 0; syntax = 0; message = 0; command = 0; dataSet = 0; report = 0; entry = entry }
+abbrev pub openHanded : ℕ → ℕ → ℕ → Opening
+openHanded context syntax message = record { context = context; syntax = syntax; message = message }
 
 abbrev pub lent : Kept → List ℕ → List ℕ → List ℕ → Lent
 lent k command dataSet report = record { records = k .records; message = k .message; command = command; dataSet = dataSet; report = report }
 
 -- The call as the machine reads it: arguments, a fragment, and of every buffer that is lent its length alone.
-unfoldable pub callOf : Kept → HostCall → Call Handed
+unfoldable pub callOf : Kept → HostCall → Call handed
 callOf k (starting root serial picture) = service.start (startHanded root serial picture)
 callOf k (opening message context syntax) = service.opening (openHanded context syntax (length message))
 callOf k (feeding fragment bytes command dataSet report) = service.feed fragment (lengths (lent k command dataSet report))
-callOf k closing = service.close nothingHanded
-callOf k (taking entry) = service.aside (takeHanded (length entry))
+callOf k closing = service.close
+callOf k (taking entry) = service.aside (calls.taking (length entry))
 
 -- The buffers for an answer, as they are lent or as they stand afterwards; one that is not lent is empty.
 pub record Buffers : Type 0 where

@@ -1,12 +1,12 @@
 -- DEMAND 3 over the bytes of the calls: runs, the messages in them and how each ended, and what is left of a run without some of them.
 use mathlib.Core.Path.{_≡_}
 use mathlib.Core.Bool.{Bool, true}
-use mathlib.Core.List.{List, [], _∷_, map}
+use mathlib.Core.List.{List, [], _∷_, _++_, map}
 use Prim.Native.Nat.{ℕ, _+_, _≤_}
-use lib.Dec.{eqb, leb, ltb}
+use lib.Dec.{eqb, leb}
 use lib.ListN.{length, take}
 use Rattle.choice.specs.Pick.{pick, both}
-use Rattle.choice.specs.Rules.{Rule, _⇒_, firstOr}
+use Rattle.choice.specs.Rules.{Rule, firstOr}
 use Rattle.octets.specs.Octets.{Bytes, numberAt, part, laid}
 use Rattle.strike.specs.Service.{DataSet, Result, fails, does, Call, start, opening, feed, close, aside, Check, passes, refuses, Service}
 use Rattle.strike.specs.Machine.{idle, Records}
@@ -14,12 +14,13 @@ use Rattle.strike.specs.Messages.{Event, struck, Fate, succeeded, failed, wasDr
 use Rattle.rules.specs.declared.Core.{Core}
 use Rattle.rules.specs.Records.{isOpen}
 use Rattle.rules.specs.Commands.{numberIn}
-use Rattle.rules.specs.Responses.{noNote, isFailure, Reply}
+use Rattle.rules.specs.declared.Note.the-variants.{NoNote}
+use Rattle.rules.specs.Responses.{isFailure, Reply}
 use Rattle.rules.specs.Sound.{sound}
 use Rattle.rules.specs.Layout.{recordsSize, unpack}
 use Rattle.rules.specs.Checks.{decide}
-use Rattle.rules.specs.Calls.{Handed, startRules, rulesOf, started, opened, closed, taken, reading}
-use Rattle.rules.specs.Outcomes.{inputIn, recordsRules}
+use Rattle.rules.specs.Calls.{Starting, Opening, Aside, handed, startRules, rulesOf, started, opened, closed, asked, reading}
+use Rattle.rules.specs.Outcomes.{inputIn, shortRules, recordsRules}
 use Rattle.runs.specs.Host.{Kept, callOf, lentBy, Shown}
 use Rattle.runs.specs.Contracts.{Known, Made, CallMade}
 
@@ -35,15 +36,15 @@ usable b = both (leb recordsSize (length b)) (sound (unpack b))
 unfoldable pub storeIn : List ℕ → Store
 storeIn b = pick (usable b) (good (unpack b .core)) (useless b)
 
-abbrev pub refusals : Store → Call Handed → List Rule
+abbrev pub refusals : Store → Call handed → List Rule
 refusals (good k) c = rulesOf k c
-refusals (useless b) (start h) = (ltb (length b) recordsSize ⇒ 2) ∷ startRules h
+refusals (useless b) (start h) = shortRules b ++ startRules h
 refusals (useless b) (opening h) = recordsRules b
 refusals (useless b) (feed bytes h) = recordsRules b
-refusals (useless b) (close h) = recordsRules b
+refusals (useless b) close = recordsRules b
 refusals (useless b) (aside h) = recordsRules b
 
-unfoldable pub storeCheck : Store → Call Handed → Check
+unfoldable pub storeCheck : Store → Call handed → Check
 storeCheck s c = firstOr refuses (refusals s c) passes
 
 -- What the calls do with good records. Useless ones are refused before, and stay.
@@ -56,9 +57,9 @@ abbrev pub ofGood : (Core → ℕ) → Store → ℕ
 ofGood f (good k) = f k
 ofGood f (useless b) = 0
 
-abbrev pub takenFrom : Store → Handed → Store × List ℕ
-takenFrom (good k) h = (good (taken k h .0), taken k h .1)
-takenFrom (useless b) h = (useless b, [])
+abbrev pub askedOf : Store → Aside → Store × List ℕ
+askedOf (good k) a = (good (asked k a .0), asked k a .1)
+askedOf (useless b) a = (useless b, [])
 
 abbrev pub resultGood : Result Core Reply → Result Store Reply
 resultGood (fails r) = fails r
@@ -66,19 +67,19 @@ resultGood (does k r) = does (good k) r
 
 abbrev pub decideFrom : Store → List ℕ → DataSet → Result Store Reply
 decideFrom (good k) c d = resultGood (decide k c d)
-decideFrom (useless b) c d = fails (record { status = 0; command = []; dataSet = []; note = noNote })
+decideFrom (useless b) c d = fails (record { status = 0; command = []; dataSet = []; note = NoNote })
 
 abbrev pub overBytes : Service
 overBytes = record {
   Core = Store;
-  Arg = Handed;
+  handed = handed;
   Response = Reply;
   Told = List ℕ;
   check = storeCheck;
-  started = λ (h : Handed). good (started h);
-  opened = λ (s : Store) (h : Handed). onGood (λ (k : Core). opened k h) s;
+  started = λ (h : Starting). good (started h);
+  opened = λ (s : Store) (h : Opening). onGood (λ (k : Core). opened k h) s;
   closed = onGood closed;
-  asked = takenFrom;
+  asked = askedOf;
   context = ofGood (λ (k : Core). k .opened .context);
   room = ofGood (λ (k : Core). k .opened .room);
   reading = reading;
@@ -113,11 +114,11 @@ lastLeft k (m ∷ ms) = lastLeft (m .left) ms
 
 -- The messages of a run, and how each ended, as the host was shown it.
 
-abbrev pub callsRead : List Made → List (Call Handed)
+abbrev pub callsRead : List Made → List (Call handed)
 callsRead = map (λ (m : Made). callOf (m .lent) (m .call))
 
 -- each call with the message that it is of, by the machine's own history
-abbrev pub eventsOf : Kept → List Made → List (Event Handed Reply (List ℕ))
+abbrev pub eventsOf : Kept → List Made → List (Event handed Reply (List ℕ))
 eventsOf k ms = history overBytes (viewOf k) (callsRead ms)
 
 -- the response in the command buffer, as long as the report says, and the status in it
@@ -133,7 +134,7 @@ fateIn s later =
     pick (eqb (s .number) 17) wasDropped
     (pick (eqb (s .number) 19) (pick (isFailure (statusShown s)) failed succeeded) later)
 
-unfoldable pub fateShown : ℕ → List (Event Handed Reply (List ℕ)) → List Made → Fate
+unfoldable pub fateShown : ℕ → List (Event handed Reply (List ℕ)) → List Made → Fate
 fateShown i [] ms = unsettled
 fateShown i (e ∷ es) [] = unsettled
 fateShown i (e ∷ es) (m ∷ ms) =
@@ -183,7 +184,7 @@ Pairwise R (x ∷ xs) [] = ⊥
 Pairwise R (x ∷ xs) (y ∷ ys) = R x y × Pairwise R xs ys
 
 -- of a list with one element for each event, those whose events are not of a struck message
-unfoldable pub leftOf : {A : Type 0} → (ℕ → Bool) → List (Event Handed Reply (List ℕ)) → List A → List A
+unfoldable pub leftOf : {A : Type 0} → (ℕ → Bool) → List (Event handed Reply (List ℕ)) → List A → List A
 leftOf S [] xs = []
 leftOf S (e ∷ es) [] = []
 leftOf S (e ∷ es) (x ∷ xs) = pick (struck S (e .message)) (leftOf S es xs) (x ∷ leftOf S es xs)

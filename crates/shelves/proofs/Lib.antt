@@ -2,3 +2,4 @@
 mod Without
 pub mod Filled
 mod Tidied
+mod Within

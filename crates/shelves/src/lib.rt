@@ -15,7 +15,7 @@ use rules::Shelf;
 ghost use mathlib.Core.Path.{_≡_};
 ghost use Prim.Native.Nat.{_+_, _<_, _≤_};
 ghost use mathlib.Core.List.{[], _∷_, _++_, map};
-ghost use lib.ListN.{length, set, drop};
+ghost use lib.ListN.{length, getD, set, take, drop};
 ghost use Rattle.rules.specs.Bounds.{mostBoxes};
 ghost use Rattle.rules.specs.Lists.{from, filledTo, without};
 ghost use Rattle.rules.specs.Records.{noName, madeName, sentName, noBox, noFilm, filmsOf, shelved, noEntry, entriesOf, queued, noSession, newSession, serialsUsed, pictureUsed};
@@ -84,7 +84,7 @@ pub fn no_film() -> Film
     Film {
         name: no_name(),
         layout: Layout {
-            turned: 0,
+            kind: 0,
             lines: 0,
             counts: [0; 6],
         },
@@ -178,6 +178,24 @@ pub fn film_added(shelf: Shelf, f: Film) -> Shelf
         count: count + 1,
         films,
     }
+}
+
+// Of the first n films the one at a place.
+fn film_within(a: [Film; 8], n: usize, i: usize) -> Film
+    requires { ⌜ i < length (take n a) ⌝ }
+    ensures { λ r. ⌜ r ≡ getD (take n a) i noFilm ⌝ }
+{
+    let xs = a;
+    xs[i]
+}
+
+// The film at a place.
+pub fn film_at(s: Shelf, i: usize) -> Film
+    requires { ⌜ i < length (filmsOf s) ⌝ }
+    ensures { λ r. ⌜ r ≡ getD (filmsOf s) i noFilm ⌝ }
+{
+    let films = s.films;
+    film_within(films, s.count as usize, i)
 }
 
 pub fn film_replaced(shelf: Shelf, i: usize, f: Film) -> Shelf

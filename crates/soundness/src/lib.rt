@@ -1,4 +1,5 @@
-// Soundness: the rules that the records keep, tested.
+// Soundness: the rules that the records keep, tested, and what every call but start begins with.
+use records::RECORDS;
 use rules::Command;
 use rules::Core;
 use rules::Input;
@@ -9,8 +10,11 @@ ghost use mathlib.Core.List.{[], _∷_};
 ghost use lib.Dec.{eqb};
 ghost use lib.ListN.{take};
 ghost use Rattle.choice.specs.Pick.{pick};
+ghost use Rattle.choice.specs.Rules.{firstBroken};
 ghost use Rattle.rules.specs.Commands.{understood};
 ghost use Rattle.rules.specs.Sound.{zeros, openSound, openedSound, readable, phaseSound, inputSound, coreSound, sound};
+ghost use Rattle.rules.specs.Layout.{unpack};
+ghost use Rattle.rules.specs.Outcomes.{recordsRules};
 
 fn open_sound(o: Opened) -> bool
     ensures { λ r. ⌜ r ≡ openSound o ⌝ }
@@ -176,4 +180,32 @@ pub fn state_sound(s: State) -> bool
     let opened = core.opened;
     let input = s.input;
     input_sound(opened, input)
+}
+
+// What a call finds in the records: the number that it is refused with for them, 0 where it is not, and what they hold.
+pub struct Unpacked {
+    pub refusal: u32,
+    pub state: State,
+}
+
+// Records that are too short hold what zeros hold.
+fn too_short() -> Unpacked
+    ensures { λ r. ⌜ r .refusal ≡ 2 ⌝ }
+{
+    let zeros = [0; RECORDS];
+    let state = records::state_at(&zeros, 0);
+    Unpacked { refusal: 2, state }
+}
+
+pub fn unpack_checked(bytes: &[u8]) -> Unpacked
+    ensures { λ r. ⌜ (r .refusal ≡ firstBroken (recordsRules (now (bytes .entry)))) × (r .refusal ≡ 0 → r .state ≡ unpack (now (bytes .entry))) ⌝ }
+{
+    if bytes.len() < RECORDS {
+        return too_short();
+    }
+    let state = records::state_at(bytes, 0);
+    if !state_sound(state) {
+        return Unpacked { refusal: 1, state };
+    }
+    Unpacked { refusal: 0, state }
 }

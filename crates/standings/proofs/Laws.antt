@@ -7,7 +7,7 @@ use mathlib.Core.List.{List, [], _∷_}
 use native.Mathlib.Omega.{arith}
 use lib.Dec.{eqb}
 use Rattle.choice.specs.Pick.{pick, either}
-use Rattle.choice.specs.Rules.{firstBroken, numbered}
+use Rattle.choice.specs.Rules.{firstBroken}
 use Rattle.elements.specs.declared.Found.{Found}
 use Rattle.elements.specs.declared.Found.the-variants.{Missing, Value, Sequence}
 use Rattle.elements.proofs.Within.{FoundIn}
@@ -94,9 +94,6 @@ status-rank false false false = refl
 pub worst-status : (standings : List Standing) → statusOf (worst standings) ≡ firstBroken (attributeRules standings)
 unfolding worst
 worst-status standings = status-rank (any (is missing) standings) (any (is empty) standings) (any (is wrong) standings)
-
-pub attributes-numbered : (standings : List Standing) → numbered (attributeRules standings) ≡ true
-attributes-numbered standings = refl
 
 -- where no rule of check 8 is broken, the first attribute stands as it should
 fine-rank : (s : Standing) (m e w : Bool)

@@ -1,11 +1,10 @@
 // Standings: how an attribute stands in a data set, as a number, and the status that the worst of them gives (check 8).
 use elements::Found;
-use headers::Inside;
 use headers::Part;
+use headers::Scope;
 ghost use mathlib.Core.Path.{_≡_};
 ghost use Prim.Native.Nat.{_≤_};
 ghost use lib.ListN.{length};
-ghost use Rattle.elements.specs.Reader.{whole};
 ghost use Rattle.elements.specs.Find.{findAt};
 ghost use Rattle.rules.specs.Commands.{placed, bytesOf};
 ghost use Rattle.standings.specs.Severity.{kindOf, severityBy, optionalBy, givenBy, worse, statusOf};
@@ -14,17 +13,6 @@ ghost use Rattle.standings.specs.Severity.{kindOf, severityBy, optionalB
 pub struct Attribute {
     pub kind: u8,
     pub value: Part,
-}
-
-// All of a data set.
-pub fn whole(d: &[u8]) -> Inside
-    ensures { λ r. ⌜ (r ≡ whole (now (d .entry))) × (r .from ≤ r .stop) × (r .stop ≤ length (now (d .entry))) ⌝ }
-{
-    Inside {
-        from: 0,
-        stop: d.len(),
-        loose: false,
-    }
 }
 
 fn seen(found: Found) -> Attribute
@@ -46,11 +34,11 @@ fn seen(found: Found) -> Attribute
     }
 }
 
-pub fn look(d: &[u8], explicit: bool, room: usize, inside: Inside, tag: usize) -> Attribute
-    requires { ⌜ (inside .from ≤ inside .stop) × (inside .stop ≤ length (now d)) ⌝ }
-    ensures { λ r. ⌜ (r .kind ≡ kindOf (findAt (now (d .entry)) explicit room inside tag)) × (r .value ≡ placed (findAt (now (d .entry)) explicit room inside tag)) × (r .value .from ≤ r .value .stop) × (r .value .stop ≤ length (now (d .entry))) ⌝ }
+pub fn look(d: &[u8], scope: Scope, tag: usize) -> Attribute
+    requires { ⌜ (scope .inside .from ≤ scope .inside .stop) × (scope .inside .stop ≤ length (now d)) ⌝ }
+    ensures { λ r. ⌜ (r .kind ≡ kindOf (findAt (now (d .entry)) scope tag)) × (r .value ≡ placed (findAt (now (d .entry)) scope tag)) × (r .value .from ≤ r .value .stop) × (r .value .stop ≤ length (now (d .entry))) ⌝ }
 {
-    seen(finding::find(d, explicit, room, inside, tag))
+    seen(finding::find(d, scope, tag))
 }
 
 pub fn value(d: &[u8], part: Part) -> &[u8]

@@ -5,13 +5,14 @@ use mathlib.Core.Bool.{true, false}
 use mathlib.Core.Option.{none, some}
 use mathlib.Core.List.{[], _∷_, map}
 use lib.ListN.{replicate}
-use Rattle.octets.specs.Octets.{bigNumberAt}
-use Rattle.strike.specs.Service.{withData, whole, tooLong}
-use Rattle.strike.specs.Machine.{Fragment, command, dataset, headerWrong, fragmentIn, Input, idle, inCommand, skippingCommand, inData, skippingData}
-use Rattle.strike.specs.Machine.{Outcome, waits, drops, asks, skips, reads, gathers, overflows, stores, collect}
+use Rattle.strike.specs.declared.Reading.the-variants.{WithData}
+use Rattle.strike.specs.Service.{whole, tooLong}
+use Rattle.strike.specs.Machine.{Fragment, command, dataset, fragmentIn, Input, idle, inCommand, skippingCommand, inData, skippingData}
+use Rattle.strike.specs.Machine.{Outcome, waits, drops, asks, collect}
+use Rattle.strike.proofs.Opened.{theMachine}
 
 abbrev collected : Input → Fragment → Outcome
-collected i f = collect (λ c. withData) 4 i f
+collected i f = collect (λ c. WithData) 4 i f
 
 record Computed : Type 0 where
   right-headers :
@@ -39,7 +40,7 @@ record Computed : Type 0 where
       ≡ waits (skippingData (7 ∷ [])) ∷ asks (7 ∷ []) tooLong ∷ waits (inCommand (8 ∷ [])) ∷ []
 
 computed : Computed
-unfolding bigNumberAt headerWrong fragmentIn skips reads gathers overflows stores collect
+unfolding theMachine
 computed =
     record {
       right-headers = refl;

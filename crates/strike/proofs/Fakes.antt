@@ -4,7 +4,9 @@
 use mathlib.Core.Bool.{Bool, true, false}
 use mathlib.Core.List.{List}
 use Prim.Native.Nat.{ℕ}
-use Rattle.strike.specs.Service.{Reading, unreadable, DataSet, Result, fails, does, Service}
+use Rattle.strike.specs.declared.Reading.{Reading}
+use Rattle.strike.specs.declared.Reading.the-variants.{NotReadable}
+use Rattle.strike.specs.Service.{DataSet, Result, fails, does, Service}
 use Rattle.strike.specs.Messages.{StrikeOut}
 use Rattle.strike.proofs.Fate.{strike-out}
 
@@ -13,7 +15,7 @@ abbrev pub faked : (G : Service) → Bool → (List ℕ → Reading) → (G .Cor
 faked G fresh reading request =
     record {
       Core = G .Core × Bool;
-      Arg = G .Arg;
+      handed = G .handed;
       Response = G .Response;
       Told = G .Told;
       check = λ k c. G .check (k .0) c;
@@ -37,7 +39,7 @@ module _ (G : Service) where
   open Service G using (Response, reading, request)
 
   abbrev pub dropsAll : Service
-  dropsAll = faked G false (λ c. unreadable) (λ k c d. stored (k .0) false (request (k .0) c d))
+  dropsAll = faked G false (λ c. NotReadable) (λ k c d. stored (k .0) false (request (k .0) c d))
 
   abbrev pub failsAll : Response → Service
   failsAll r = faked G false reading (λ k c d. fails r)

@@ -16,6 +16,7 @@ use Rattle.strike.specs.Machine.{Answer, refused, done, told, ignored, w
 use Rattle.strike.specs.Messages.{mayBegin, unfinished, Role, outside, begins, continues, ends, roleOfFragment, Count, current, countAfter, messageOf, cutBy}
 use Rattle.strike.specs.Messages.{Fate, wasCutOff, strikeable, says, isOf, fateOf, roleIf, roleOf, eventOf, historyFrom, history, StrikeOut}
 use Rattle.strike.proofs.Simulation.{Fruitless, Never, strike-fruitless}
+use Rattle.strike.proofs.Opened.{theMachine}
 
 is-of : (i : ℕ) (x : Option ℕ) → isOf i x ≡ true → x ≡ some i
 unfolding isOf
@@ -70,7 +71,7 @@ cut-over i continues input input′ n e = absurd (Option·none-ne-some i e)
 cut-over i ends input input′ n e = absurd (Option·none-ne-some i e)
 
 module _ (G : Service) where
-  open Service G using (Core, Arg, Response, Told, check, context, room, reading, request)
+  open Service G using (Core, handed, Response, Told, check, context, room, reading, request)
 
   -- a call in this role is no success of message i, and leaves it over
   abbrev Onward : ℕ → Count → Role → Step Core Response Told → Type 0
@@ -88,21 +89,21 @@ module _ (G : Service) where
       (λ q. absurd (no q), (o .0, λ q. absurd (no q)))
 
   over-fed : (i : ℕ) (s : Records Core) (n : Count) (f : Option Fragment) → Over i n (s .input) → Onward i n (roleOfFragment (s .input) f) (fed G s f)
-  unfolding messageOf countAfter roleOfFragment fed carriedOut collect
+  unfolding theMachine messageOf countAfter roleOfFragment
   over-fed i s n none o = (λ q. tt, (o .0, λ q. refl))
   over-fed i s n (some (command last bytes)) o = over-command i s n last bytes (mayBegin (s .input)) refl o
   over-fed i s n (some (dataset last bytes)) o = (λ q. rw (o .1 q) tt, (o .0, λ q. rw (o .1 q)))
 
-  over-checked : (i : ℕ) (x : Check) (s : Records Core) (n : Count) (c : Call Arg) → Over i n (s .input) → Onward i n (roleIf G x s c) (checked G x s c)
+  over-checked : (i : ℕ) (x : Check) (s : Records Core) (n : Count) (c : Call handed) → Over i n (s .input) → Onward i n (roleIf G x s c) (checked G x s c)
   unfolding messageOf countAfter roleIf checked
   over-checked i (refuses m) s n c o = (λ q. tt, o)
   over-checked i passes s n (start a) o = (λ q. tt, (o .0, λ q. refl))
   over-checked i passes s n (opening a) o = (λ q. tt, (o .0, λ q. refl))
   over-checked i passes s n (feed bytes a) o = over-fed i s n (fragmentIn (context (s .core)) bytes) o
-  over-checked i passes s n (close a) o = (λ q. tt, (o .0, λ q. refl))
+  over-checked i passes s n close o = (λ q. tt, (o .0, λ q. refl))
   over-checked i passes s n (aside a) o = (λ q. tt, o)
 
-  over-never : (i : ℕ) (cs : List (Call Arg)) (s : Records Core) (n : Count) → Over i n (s .input) → Never i (historyFrom G s n cs)
+  over-never : (i : ℕ) (cs : List (Call handed)) (s : Records Core) (n : Count) → Over i n (s .input) → Never i (historyFrom G s n cs)
   unfolding historyFrom eventOf roleOf step
   over-never i [] s n o = tt
   over-never i (c ∷ cs) s n o =
@@ -127,18 +128,18 @@ module _ (G : Service) where
   fed-idle s none h = refl
   fed-idle s (some f) h = carried-idle (s .core) (collect reading (room (s .core)) (s .input) f) h
 
-  checked-idle : (i : ℕ) (x : Check) (s : Records Core) (n : Count) (c : Call Arg) → messageOf (roleIf G x s c) n ≡ some i
+  checked-idle : (i : ℕ) (x : Check) (s : Records Core) (n : Count) (c : Call handed) → messageOf (roleIf G x s c) n ≡ some i
       → (checked G x s c .answer ≡ wait → ⊥) → checked G x s c .records .input ≡ idle
   unfolding messageOf roleIf checked
   checked-idle i (refuses m) s n c e h = absurd (Option·none-ne-some i e)
   checked-idle i passes s n (start a) e h = refl
   checked-idle i passes s n (opening a) e h = refl
   checked-idle i passes s n (feed bytes a) e h = fed-idle s (fragmentIn (context (s .core)) bytes) h
-  checked-idle i passes s n (close a) e h = refl
+  checked-idle i passes s n close e h = refl
   checked-idle i passes s n (aside a) e h = absurd (Option·none-ne-some i e)
 
   -- one call: is it of message i, and if not, does it cut i off
-  fate-call : (i : ℕ) (c : Call Arg) (cs : List (Call Arg)) (s : Records Core) (n : Count) (later : Fate) (x y : Bool)
+  fate-call : (i : ℕ) (c : Call handed) (cs : List (Call handed)) (s : Records Core) (n : Count) (later : Fate) (x y : Bool)
       → isOf i (messageOf (roleOf G s c) n) ≡ x → isOf i (cutBy (roleOf G s c) (s .input) n) ≡ y
       → strikeable (pick x (says (step G s c .answer) later) (pick y wasCutOff later)) ≡ true
       → (strikeable later ≡ true → Never i (historyFrom G (step G s c .records) (countAfter (roleOf G s c) n) cs))
@@ -156,7 +157,7 @@ module _ (G : Service) where
   )
   fate-call i c cs s n later false false p q h rest = (λ z. absurd (not-of i _ p z), rest h)
 
-  one-fate : (i : ℕ) (cs : List (Call Arg)) (s : Records Core) (n : Count) → strikeable (fateOf i (historyFrom G s n cs)) ≡ true
+  one-fate : (i : ℕ) (cs : List (Call handed)) (s : Records Core) (n : Count) → strikeable (fateOf i (historyFrom G s n cs)) ≡ true
       → Never i (historyFrom G s n cs)
   unfolding fateOf historyFrom eventOf
   one-fate i [] s n h = tt

@@ -1,4 +1,5 @@
 pub mod Simulation
+pub mod Opened
 pub mod Fate
 pub mod Collecting
 pub mod Lies

@@ -13,7 +13,9 @@ use lib.Seq.{take-at, length-take-le}
 use Rattle.choice.specs.Pick.{pick}
 use Rattle.octets.specs.Octets.{laid}
 use Rattle.octets.proofs.Laid.{length-laid}
-use Rattle.strike.specs.Service.{Reading, unreadable, alone, withData, DataSet, noData, whole, tooLong}
+use Rattle.strike.specs.declared.Reading.{Reading}
+use Rattle.strike.specs.declared.Reading.the-variants.{NotReadable, Alone, WithData}
+use Rattle.strike.specs.Service.{DataSet, whole}
 use Rattle.strike.specs.Service.{Result, fails, does, feed, Check, passes, refuses, Service}
 use Rattle.strike.specs.Machine.{Fragment, command, dataset, Input, idle, inCommand, skippingCommand, inData, skippingData}
 use Rattle.strike.specs.Machine.{Outcome, ignores, waits, drops, asks, skips, reads, commandLimit, gathers, overflows, stores, collect, laidBy}
@@ -35,9 +37,7 @@ Lies (skippingData c) message = Unit {0}
 
 -- the same of what a fragment comes to
 abbrev pub DataLies : DataSet → List ℕ → Type 0
-DataLies noData message = Unit {0}
-DataLies (whole d) message = take (length d) message ≡ d
-DataLies tooLong message = Unit {0}
+DataLies d message = take (length (d .bytes)) message ≡ d .bytes
 
 abbrev pub OutcomeLies : Outcome → List ℕ → Type 0
 OutcomeLies ignores message = Unit {0}
@@ -52,9 +52,9 @@ skips-lies false message = tt
 
 reads-lies : (r : Reading) (c message : List ℕ) → OutcomeLies (reads r c) message
 unfolding reads
-reads-lies unreadable c message = tt
-reads-lies alone c message = tt
-reads-lies withData c message = refl
+reads-lies NotReadable c message = tt
+reads-lies Alone c message = search
+reads-lies WithData c message = refl
 
 gathers-lies : (reading : List ℕ → Reading) (c : List ℕ) (last : Bool) (message : List ℕ) → OutcomeLies (gathers reading c last) message
 unfolding gathers
@@ -67,7 +67,7 @@ gathers-lies reading c last message = cases (leb (length c) commandLimit) last
 
 overflows-lies : (c : List ℕ) (last : Bool) (message : List ℕ) → OutcomeLies (overflows c last) message
 unfolding overflows
-overflows-lies c true message = tt
+overflows-lies c true message = search
 overflows-lies c false message = tt
 
 module _ (c d bytes message : List ℕ) (h : take (length d) message ≡ d) where
@@ -113,7 +113,7 @@ AnswerLies (failure r d) message = DataLies d message
 AnswerLies (success r d) message = DataLies d message
 
 module _ (G : Service) where
-  open Service G using (Core, Arg, Response, Told, check, context, room, reading, request)
+  open Service G using (Core, handed, Response, Told, check, context, room, reading, request)
 
   answered-lies : (k : Core) (d : DataSet) (r : Result Core Response) (message : List ℕ) → DataLies d message
       → Lies (answered G k d r .records .input) message × AnswerLies (answered G k d r .answer) message
@@ -146,12 +146,12 @@ module _ (G : Service) where
         record { input-lies = o .0; answer-lies = o .1; same-length = c .1 })
 
     -- of a feed that a check has passed, or has refused
-    pub checked-lies : (x : Check) (bytes : List ℕ) (a : Arg)
+    pub checked-lies : (x : Check) (bytes : List ℕ) (a : handed .Feed)
         → StepLies (checked G x s (feed bytes a)) (laidIf G x s (fragmentIn (context (s .core)) bytes) message) message
     unfolding checked laidIf
     checked-lies (refuses n) bytes a = record { input-lies = h; answer-lies = tt; same-length = refl }
     checked-lies passes bytes a = fed-lies (fragmentIn (context (s .core)) bytes)
 
-    pub feed-lies : (bytes : List ℕ) (a : Arg) → StepLies (step G s (feed bytes a)) (messageAfter G s bytes a message) message
+    pub feed-lies : (bytes : List ℕ) (a : handed .Feed) → StepLies (step G s (feed bytes a)) (messageAfter G s bytes a message) message
     unfolding step messageAfter
     feed-lies bytes a = checked-lies (check (s .core) (feed bytes a)) bytes a

@@ -8,7 +8,8 @@ use mathlib.Core.List.{List, [], _∷_}
 use Prim.Native.Nat.{ℕ}
 use Rattle.choice.specs.Pick.{pick}
 use Rattle.choice.proofs.Picks.{clash}
-use Rattle.strike.specs.Service.{Reading, DataSet, Result, fails, does, Call, start, opening, feed, close, aside, Check, passes, refuses, Service}
+use Rattle.strike.specs.declared.Reading.{Reading}
+use Rattle.strike.specs.Service.{Handed, DataSet, Result, fails, does, Call, start, opening, feed, close, aside, Check, passes, refuses, Service}
 use Rattle.strike.specs.Machine.{Fragment, command, dataset, fragmentIn, Input, idle, inCommand, skippingCommand, inData, skippingData}
 use Rattle.strike.specs.Machine.{Outcome, ignores, waits, drops, asks, gathers, collect}
 use Rattle.strike.specs.Machine.{Answer, refused, done, told, ignored, wait, dropped, failure, success, Records, Step, leaves, answered, carriedOut, fed, checked, step}
@@ -37,7 +38,7 @@ Fruitless (failure r d) = Unit {0}
 Fruitless (success r d) = ⊥
 
 -- no success of message i
-abbrev pub Never : {Arg Response Told : Type 0} → ℕ → List (Event Arg Response Told) → Type 0
+abbrev pub Never : {H : Handed} {Response Told : Type 0} → ℕ → List (Event H Response Told) → Type 0
 Never i [] = Unit {0}
 Never i (e ∷ es) = (e .message ≡ some i → Fruitless (e .answer)) × Never i es
 
@@ -68,7 +69,7 @@ both-begin true i j h b = h
 both-begin false i j h b = rw h at b
 
 module _ (G : Service) where
-  open Service G using (Core, Arg, Response, Told, check, context, request)
+  open Service G using (Core, handed, Response, Told, check, context, request)
 
   answered-core : (k : Core) (d : DataSet) (r : Result Core Response) → Fruitless (answered G k d r .answer) → answered G k d r .records .core ≡ k
   unfolding answered
@@ -128,14 +129,14 @@ module _ (G : Service) where
       keep-fed (some (dataset last bytes)) h = keep-continues (dataset last bytes) h
 
       -- a call that is kept
-      keep-checked : (x : Check) (c : Call Arg) → struck S (messageOf (roleIf G x s c) n) ≡ false
+      keep-checked : (x : Check) (c : Call handed) → struck S (messageOf (roleIf G x s c) n) ≡ false
           → Kept (countAfter (roleIf G x s c) n) (checked G x s c) (checked G x (at s j) c)
       unfolding messageOf countAfter roleIf checked
       keep-checked (refuses m) c h = record { one-answer = refl; tie = record { one-core = refl; tied = r } }
       keep-checked passes (start a) h = kept-idle _ _ _
       keep-checked passes (opening a) h = kept-idle _ _ _
       keep-checked passes (feed bytes a) h = keep-fed (fragmentIn (context (s .core)) bytes) h
-      keep-checked passes (close a) h = kept-idle _ _ _
+      keep-checked passes close h = kept-idle _ _ _
       keep-checked passes (aside a) h = record { one-answer = refl; tie = record { one-core = refl; tied = r } }
 
       -- a fragment that is struck out
@@ -159,21 +160,21 @@ module _ (G : Service) where
       skip-fed (some (dataset last bytes)) h q = skip-fragment n (dataset last bytes) h (rw h at r) q
 
       -- a call that is struck out
-      skip-checked : (x : Check) (c : Call Arg) → struck S (messageOf (roleIf G x s c) n) ≡ true → Fruitless (checked G x s c .answer)
+      skip-checked : (x : Check) (c : Call handed) → struck S (messageOf (roleIf G x s c) n) ≡ true → Fruitless (checked G x s c .answer)
           → Tie (countAfter (roleIf G x s c) n) (checked G x s c .records) (at s j)
       unfolding struck messageOf countAfter roleIf checked
       skip-checked (refuses m) c h q = absurd (false≢true h)
       skip-checked passes (start a) h q = absurd (false≢true h)
       skip-checked passes (opening a) h q = absurd (false≢true h)
       skip-checked passes (feed bytes a) h q = skip-fed (fragmentIn (context (s .core)) bytes) h q
-      skip-checked passes (close a) h q = absurd (false≢true h)
+      skip-checked passes close h q = absurd (false≢true h)
       skip-checked passes (aside a) h q = absurd (false≢true h)
 
     -- the two runs, from tied records
-    abbrev Ends : Records Core → Records Core → List (Call Arg) → List (Event Arg Response Told) → Type 0
+    abbrev Ends : Records Core → Records Core → List (Call handed) → List (Event handed Response Told) → Type 0
     Ends s t cs left = (answers G t (callsOf left) ≡ answersOf left) × (after G t (callsOf left) .core ≡ after G s cs .core)
 
-    both-call : (n : Count) (s : Records Core) (j : Input) (c : Call Arg) (cs : List (Call Arg)) (left : List (Event Arg Response Told)) (b : Bool)
+    both-call : (n : Count) (s : Records Core) (j : Input) (c : Call handed) (cs : List (Call handed)) (left : List (Event handed Response Told)) (b : Bool)
         → struck S (messageOf (roleOf G s c) n) ≡ b → (b ≡ true → Fruitless (step G s c .answer)) → Tied (struck S (current n)) (s .input) j
         → ((u : Records Core) → Tie (countAfter (roleOf G s c) n) (step G s c .records) u → Ends (step G s c .records) u cs left)
         → Ends s (at s j) (c ∷ cs) (pick b left (eventOf G s n c ∷ left))
@@ -184,7 +185,7 @@ module _ (G : Service) where
         let e = rest (step G (at s j) c .records) (k .tie) in
         (ap₂ _∷_ (sym (k .one-answer)) (e .0), e .1)
 
-    both-runs : (cs : List (Call Arg)) (n : Count) (s t : Records Core) → Tie n s t → ((i : ℕ) → S i ≡ true → Never i (historyFrom G s n cs))
+    both-runs : (cs : List (Call handed)) (n : Count) (s t : Records Core) → Tie n s t → ((i : ℕ) → S i ≡ true → Never i (historyFrom G s n cs))
         → Ends s t cs (without S (historyFrom G s n cs))
     unfolding answers after historyFrom without eventOf
     both-runs [] n s t r q = (refl, sym (r .one-core))
@@ -193,7 +194,7 @@ module _ (G : Service) where
         (both-call n s (t .input) c cs _ (struck S (messageOf (roleOf G s c) n)) refl (struck-of S _ (λ i e. q i e .0)) (r .tied)
         (λ u r′. both-runs cs _ _ u r′ (λ i e. q i e .1)))
 
-    pub strike-fruitless : (s : Records Core) (cs : List (Call Arg)) → ((i : ℕ) → S i ≡ true → Never i (history G s cs))
+    pub strike-fruitless : (s : Records Core) (cs : List (Call handed)) → ((i : ℕ) → S i ≡ true → Never i (history G s cs))
         → Same G s cs (without S (history G s cs))
     unfolding history struck Tied
     strike-fruitless s cs q =

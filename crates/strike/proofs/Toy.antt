@@ -9,14 +9,18 @@ use Prim.Native.Nat.{ℕ, suc, _+_}
 use lib.Dec.{eqb}
 use lib.ListN.{length, getD}
 use Rattle.choice.specs.Pick.{pick, both, either, not}
-use Rattle.octets.specs.Octets.{bigNumberAt}
-use Rattle.strike.specs.Service.{Reading, unreadable, alone, withData, DataSet, noData, whole, tooLong, Result, fails, does}
-use Rattle.strike.specs.Service.{Call, start, opening, feed, close, aside, Check, passes, refuses, Service}
-use Rattle.strike.specs.Machine.{headerWrong, fragmentIn, idle, inData, skips, reads, gathers, overflows, stores, collect, laidBy}
-use Rattle.strike.specs.Machine.{Answer, refused, done, told, ignored, wait, dropped, failure, success, Records, answered, carriedOut, fed, checked, step, laidIf, messageAfter}
-use Rattle.strike.specs.Messages.{mayBegin, unfinished, roleOfFragment, countAfter, messageOf, cutBy, Event, struck, without, callsOf}
-use Rattle.strike.specs.Messages.{succeeded, failed, wasDropped, wasCutOff, unsettled, strikeable, says, isOf, fateOf}
-use Rattle.strike.specs.Messages.{roleIf, roleOf, eventOf, historyFrom, history, answers, after}
+use Rattle.strike.specs.declared.Reading.{Reading}
+use Rattle.strike.specs.declared.Reading.the-variants.{NotReadable, Alone, WithData}
+use Rattle.strike.specs.declared.Came.{Came}
+use Rattle.strike.specs.declared.Came.the-variants.{Absent, Whole, TooLong}
+use Rattle.strike.specs.Service.{DataSet, noData, whole, tooLong, Result, fails, does}
+use Rattle.strike.specs.Service.{Handed, Call, start, opening, feed, close, aside, Check, passes, refuses, Service}
+use Rattle.strike.specs.Machine.{idle, inData}
+use Rattle.strike.specs.Machine.{Answer, refused, done, told, ignored, wait, dropped, failure, success, Records, step, messageAfter}
+use Rattle.strike.specs.Messages.{Event, without, callsOf}
+use Rattle.strike.specs.Messages.{succeeded, failed, wasDropped, wasCutOff, unsettled, strikeable, fateOf}
+use Rattle.strike.specs.Messages.{history, answers, after}
+use Rattle.strike.proofs.Opened.{theMachine, theMessages}
 use Rattle.strike.proofs.Refine.{acts, Right, SameOf, strike-out-of}
 use Rattle.strike.proofs.Fakes.{dropsAll, failsAll, oneReply, storesNone, storesFirst}
 
@@ -30,28 +34,34 @@ record Shop : Type 0 where
 abbrev sells : Shop → ℕ → Result Shop ℕ
 sells k n = does (record { isOpen = k .isOpen; space = k .space; sold = k .sold + n; looks = k .looks }) (k .sold + n)
 
--- the length of the message buffer is handed over with each call
-abbrev shopCheck : Shop → Call ℕ → Check
+-- the length of the message buffer is handed over with each open and feed
+abbrev shopHanded : Handed
+shopHanded = record { Start = Unit {0}; Opening = ℕ; Feed = ℕ; Aside = Unit {0} }
+
+abbrev shopCheck : Shop → Call shopHanded → Check
 shopCheck k (start n) = passes
 shopCheck k (opening n) = pick (k .isOpen) (refuses 3) passes
 shopCheck k (feed bytes n) = pick (not (eqb n (k .space))) (refuses 2) (pick (k .isOpen) passes (refuses 4))
-shopCheck k (close n) = pick (k .isOpen) passes (refuses 4)
+shopCheck k close = pick (k .isOpen) passes (refuses 4)
 shopCheck k (aside n) = pick (eqb (k .sold) 0) (refuses 6) passes
 
 -- command 1 sells one, 2 fails, 3 sells one for each byte of its data set
 abbrev shopReading : ℕ → Reading
-shopReading c = pick (eqb c 3) withData (pick (either (eqb c 1) (eqb c 2)) alone unreadable)
+shopReading c = pick (eqb c 3) WithData (pick (either (eqb c 1) (eqb c 2)) Alone NotReadable)
+
+abbrev shopFor : Shop → ℕ → Came → ℕ → Result Shop ℕ
+shopFor k c Absent n = pick (eqb c 1) (sells k 1) (fails (k .sold))
+shopFor k c Whole n = sells k n
+shopFor k c TooLong n = fails (k .sold)
 
 abbrev shopRequest : Shop → ℕ → DataSet → Result Shop ℕ
-shopRequest k c noData = pick (eqb c 1) (sells k 1) (fails (k .sold))
-shopRequest k c (whole d) = sells k (length d)
-shopRequest k c tooLong = fails (k .sold)
+shopRequest k c d = shopFor k c (d .came) (length (d .bytes))
 
 abbrev shop : Service
 shop =
     record {
       Core = Shop;
-      Arg = ℕ;
+      handed = shopHanded;
       Response = ℕ;
       Told = ℕ;
       check = shopCheck;
@@ -69,13 +79,13 @@ shop =
 abbrev fragment : ℕ → List ℕ → List ℕ
 fragment control bytes = 0 ∷ 0 ∷ 0 ∷ (2 + length bytes) ∷ 1 ∷ control ∷ bytes
 
-abbrev fragmentFed : ℕ → List ℕ → Call ℕ
+abbrev fragmentFed : ℕ → List ℕ → Call shopHanded
 fragmentFed control bytes = feed (fragment control bytes) 4
 
 abbrev shut : Records Shop
 shut = record { core = record { isOpen = false; space = 0; sold = 1; looks = 0 }; input = idle }
 
-abbrev calls : List (Call ℕ)
+abbrev calls : List (Call shopHanded)
 calls =
     opening 4
     ∷ fragmentFed 2 (5 ∷ [])
@@ -84,7 +94,7 @@ calls =
     ∷ fragmentFed 0 (5 ∷ 6 ∷ [])
     -- message 2: too long, so that it fails
     ∷ fragmentFed 1 (3 ∷ [])
-    ∷ aside 4
+    ∷ aside tt
     ∷ fragmentFed 3 []
     ∷ fragmentFed 0 (7 ∷ 7 ∷ 7 ∷ 7 ∷ [])
     ∷ feed (fragment 2 (8 ∷ [])) 5
@@ -102,7 +112,7 @@ calls =
     ∷ fragmentFed 0 (4 ∷ [])
     -- message 6: dropped
     ∷ fragmentFed 3 (0 ∷ [])
-    ∷ aside 4
+    ∷ aside tt
     ∷ fragmentFed 2 (8 ∷ [])
     ∷ []
 
@@ -110,7 +120,7 @@ calls =
 abbrev chosen : ℕ → Bool
 chosen i = both (strikeable (fateOf i (history shop shut calls))) (not (either (eqb i 1) (eqb i 5)))
 
-abbrev left : List (Event ℕ ℕ ℕ)
+abbrev left : List (Event shopHanded ℕ ℕ)
 left = without chosen (history shop shut calls)
 
 -- the shop with its message buffer, as an implementation: the view forgets the leftovers
@@ -118,37 +128,37 @@ record Till : Type 0 where
   records : Records Shop
   message : List ℕ
 
-abbrev messageAt : Records Shop → Call ℕ → List ℕ → List ℕ
+abbrev messageAt : Records Shop → Call shopHanded → List ℕ → List ℕ
 messageAt s (start n) message = message
 messageAt s (opening n) message = message
 messageAt s (feed bytes n) message = messageAfter shop s bytes n message
-messageAt s (close n) message = message
+messageAt s close message = message
 messageAt s (aside n) message = message
 
-abbrev act : Till → Call ℕ → Till
+abbrev act : Till → Call shopHanded → Till
 act t c = record { records = step shop (t .records) c .records; message = messageAt (t .records) c (t .message) }
 
-abbrev reply : Till → Call ℕ → Answer ℕ ℕ
+abbrev reply : Till → Call shopHanded → Answer ℕ ℕ
 reply t c = step shop (t .records) c .answer
 
-right : Right shop Till (Call ℕ) (λ t. Unit {0}) (λ t. t .records) (λ c. c) act reply
+right : Right shop Till (Call shopHanded) (λ t. Unit {0}) (λ t. t .records) (λ c. c) act reply
 right = record { right-reply = λ t c g. refl; right-view = λ t c g. refl; right-good = λ t c g. tt }
 
 abbrev till : Till
 till = record { records = shut; message = 9 ∷ 9 ∷ 9 ∷ 9 ∷ [] }
 
-abbrev ends : List (Call ℕ) → Till
-ends cs = acts shop Till (Call ℕ) (λ t. Unit {0}) (λ t. t .records) (λ c. c) act reply till cs
+abbrev ends : List (Call shopHanded) → Till
+ends cs = acts shop Till (Call shopHanded) (λ t. Unit {0}) (λ t. t .records) (λ c. c) act reply till cs
 
 -- a message, and fragments after a close and a start
-abbrev closing : List (Call ℕ)
+abbrev closing : List (Call shopHanded)
 closing =
-    opening 4 ∷ fragmentFed 3 (0 ∷ []) ∷ close 4 ∷ opening 4 ∷ fragmentFed 2 (8 ∷ [])
-    ∷ fragmentFed 3 (0 ∷ []) ∷ start 4 ∷ opening 4 ∷ fragmentFed 2 (8 ∷ []) ∷ []
+    opening 4 ∷ fragmentFed 3 (0 ∷ []) ∷ close ∷ opening 4 ∷ fragmentFed 2 (8 ∷ [])
+    ∷ fragmentFed 3 (0 ∷ []) ∷ start tt ∷ opening 4 ∷ fragmentFed 2 (8 ∷ []) ∷ []
 
 -- two sales of one, as they are asked for
-abbrev twice : List (Call ℕ)
-twice = opening 4 ∷ fragmentFed 3 (1 ∷ []) ∷ fragmentFed 3 (1 ∷ []) ∷ aside 4 ∷ []
+abbrev twice : List (Call shopHanded)
+twice = opening 4 ∷ fragmentFed 3 (1 ∷ []) ∷ fragmentFed 3 (1 ∷ []) ∷ aside tt ∷ []
 
 abbrev fake : Records (Shop × Bool)
 fake = record { core = (shut .core, false); input = idle }
@@ -168,8 +178,8 @@ record Computed : Type 0 where
   -- messages 2, 3 and 6 are struck
   calls-left :
       callsOf left
-      ≡ opening 4 ∷ fragmentFed 2 (5 ∷ []) ∷ fragmentFed 3 (3 ∷ []) ∷ fragmentFed 0 (5 ∷ 6 ∷ []) ∷ aside 4 ∷ feed (fragment 2 (8 ∷ [])) 5 ∷ opening 4
-      ∷ fragmentFed 3 (3 ∷ []) ∷ fragmentFed 2 (1 ∷ 2 ∷ []) ∷ fragmentFed 3 (3 ∷ []) ∷ fragmentFed 0 (4 ∷ []) ∷ aside 4 ∷ []
+      ≡ opening 4 ∷ fragmentFed 2 (5 ∷ []) ∷ fragmentFed 3 (3 ∷ []) ∷ fragmentFed 0 (5 ∷ 6 ∷ []) ∷ aside tt ∷ feed (fragment 2 (8 ∷ [])) 5 ∷ opening 4
+      ∷ fragmentFed 3 (3 ∷ []) ∷ fragmentFed 2 (1 ∷ 2 ∷ []) ∷ fragmentFed 3 (3 ∷ []) ∷ fragmentFed 0 (4 ∷ []) ∷ aside tt ∷ []
   answers-left :
       answers shop shut (callsOf left)
       ≡ done ∷ ignored ∷ wait ∷ wait ∷ told 1 ∷ refused 2 ∷ refused 3 ∷ wait ∷ success 3 (whole (1 ∷ 2 ∷ [])) ∷ wait ∷ wait ∷ told 3 ∷ []
@@ -197,7 +207,7 @@ record Computed : Type 0 where
   stores-first : answers (storesFirst shop) fake twice ≡ done ∷ success 2 noData ∷ success 3 noData ∷ told 2 ∷ []
 
 computed : Computed
-unfolding bigNumberAt headerWrong fragmentIn skips reads gathers overflows stores collect laidBy answered carriedOut fed checked step laidIf messageAfter mayBegin unfinished roleOfFragment countAfter messageOf cutBy struck without strikeable says isOf fateOf roleIf roleOf eventOf historyFrom history answers after acts
+unfolding theMachine theMessages acts
 computed =
     record {
       all-answers = refl;
@@ -223,7 +233,7 @@ both-true true b h = refl
 both-true false b h = h
 
 -- the theorem, at this run
-till-struck-out : SameOf shop Till (Call ℕ) (λ t. Unit {0}) (λ t. t .records) (λ c. c) act reply till calls (callsOf left) (history shop shut calls) left
+till-struck-out : SameOf shop Till (Call shopHanded) (λ t. Unit {0}) (λ t. t .records) (λ c. c) act reply till calls (callsOf left) (history shop shut calls) left
 till-struck-out =
-    strike-out-of shop Till (Call ℕ) (λ t. Unit {0}) (λ t. t .records) (λ c. c) act reply right till tt calls chosen (λ i h. both-true _ _ h)
+    strike-out-of shop Till (Call shopHanded) (λ t. Unit {0}) (λ t. t .records) (λ c. c) act reply right till tt calls chosen (λ i h. both-true _ _ h)
     (callsOf left) (map-id (callsOf left))

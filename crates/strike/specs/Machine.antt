@@ -7,7 +7,9 @@ use lib.Dec.{eqb, leb, ltb}
 use lib.ListN.{length, getD, drop}
 use Rattle.choice.specs.Pick.{pick, either, not}
 use Rattle.octets.specs.Octets.{bigNumberAt, laid}
-use Rattle.strike.specs.Service.{Reading, unreadable, alone, withData, DataSet, noData, whole, tooLong, Result, fails, does}
+use Rattle.strike.specs.declared.Reading.{Reading}
+use Rattle.strike.specs.declared.Reading.the-variants.{NotReadable, Alone, WithData}
+use Rattle.strike.specs.Service.{DataSet, noData, whole, tooLong, Result, fails, does}
 use Rattle.strike.specs.Service.{Call, start, opening, feed, close, aside, Check, passes, refuses, Service}
 
 -- a fragment: of a command or a data set, the last one or not, and its bytes
@@ -57,9 +59,9 @@ unfoldable pub skips : Bool → Outcome
 skips last = pick last drops (waits skippingCommand)
 
 unfoldable pub reads : Reading → List ℕ → Outcome
-reads unreadable c = drops
-reads alone c = asks c noData
-reads withData c = waits (inData c [])
+reads NotReadable c = drops
+reads Alone c = asks c noData
+reads WithData c = waits (inData c [])
 
 -- the most bytes of a command set
 abbrev pub commandLimit : ℕ
@@ -119,7 +121,7 @@ abbrev pub leaves : {Core Response Told : Type 0} → Core → Input → Answer 
 leaves k i a = record { records = record { core = k; input = i }; answer = a }
 
 module _ (G : Service) where
-  open Service G using (Core, Arg, Response, Told, check, started, opened, closed, asked, context, room, reading, request)
+  open Service G using (Core, handed, Response, Told, check, started, opened, closed, asked, context, room, reading, request)
 
   unfoldable pub answered : Core → DataSet → Result Core Response → Step Core Response Told
   answered k d (fails r) = leaves k idle (failure r d)
@@ -136,16 +138,16 @@ module _ (G : Service) where
   fed s none = leaves (closed (s .core)) idle (refused 5)
   fed s (some f) = carriedOut (s .core) (collect reading (room (s .core)) (s .input) f)
 
-  unfoldable pub checked : Check → Records Core → Call Arg → Step Core Response Told
+  unfoldable pub checked : Check → Records Core → Call handed → Step Core Response Told
   checked (refuses n) s c = record { records = s; answer = refused n }
   checked passes s (start a) = leaves (started a) idle done
   checked passes s (opening a) = leaves (opened (s .core) a) idle done
   checked passes s (feed bytes a) = fed s (fragmentIn (context (s .core)) bytes)
-  checked passes s (close a) = leaves (closed (s .core)) idle done
+  checked passes s close = leaves (closed (s .core)) idle done
   checked passes s (aside a) = leaves (asked (s .core) a .0) (s .input) (told (asked (s .core) a .1))
 
   -- one call
-  unfoldable pub step : Records Core → Call Arg → Step Core Response Told
+  unfoldable pub step : Records Core → Call handed → Step Core Response Told
   step s c = checked (check (s .core) c) s c
 
   -- the message buffer after a feed
@@ -154,5 +156,5 @@ module _ (G : Service) where
   laidIf passes s none message = message
   laidIf passes s (some f) message = laidBy (room (s .core)) (s .input) f message
 
-  unfoldable pub messageAfter : Records Core → List ℕ → Arg → List ℕ → List ℕ
+  unfoldable pub messageAfter : Records Core → List ℕ → handed .Feed → List ℕ → List ℕ
   messageAfter s bytes a message = laidIf (check (s .core) (feed bytes a)) s (fragmentIn (context (s .core)) bytes) message

@@ -6,7 +6,7 @@ use mathlib.Core.List.{List, [], _∷_, map}
 use Prim.Native.Nat.{ℕ, suc}
 use lib.Dec.{eqb}
 use Rattle.choice.specs.Pick.{pick}
-use Rattle.strike.specs.Service.{Call, start, opening, feed, close, aside, Check, passes, refuses, Service}
+use Rattle.strike.specs.Service.{Handed, Call, start, opening, feed, close, aside, Check, passes, refuses, Service}
 use Rattle.strike.specs.Machine.{Fragment, command, dataset, fragmentIn, Input, idle, inCommand, skippingCommand, inData, skippingData}
 use Rattle.strike.specs.Machine.{Answer, refused, done, told, ignored, wait, dropped, failure, success, Records, step}
 
@@ -64,8 +64,8 @@ cutBy continues i n = none
 cutBy ends i n = none
 
 -- a call of a run with its answer
-pub record Event (Arg Response Told : Type 0) : Type 0 where
-  pub call : Call Arg
+pub record Event (H : Handed) (Response Told : Type 0) : Type 0 where
+  pub call : Call H
   pub answer : Answer Response Told
   pub message : Option ℕ
   pub cuts : Option ℕ
@@ -75,14 +75,14 @@ struck S none = false
 struck S (some i) = S i
 
 -- the run without the messages of a set
-unfoldable pub without : {Arg Response Told : Type 0} → (ℕ → Bool) → List (Event Arg Response Told) → List (Event Arg Response Told)
+unfoldable pub without : {H : Handed} {Response Told : Type 0} → (ℕ → Bool) → List (Event H Response Told) → List (Event H Response Told)
 without S [] = []
 without S (e ∷ es) = pick (struck S (e .message)) (without S es) (e ∷ without S es)
 
-abbrev pub callsOf : {Arg Response Told : Type 0} → List (Event Arg Response Told) → List (Call Arg)
+abbrev pub callsOf : {H : Handed} {Response Told : Type 0} → List (Event H Response Told) → List (Call H)
 callsOf es = map (λ e. e .call) es
 
-abbrev pub answersOf : {Arg Response Told : Type 0} → List (Event Arg Response Told) → List (Answer Response Told)
+abbrev pub answersOf : {H : Handed} {Response Told : Type 0} → List (Event H Response Told) → List (Answer Response Told)
 answersOf es = map (λ e. e .answer) es
 
 -- how a message ended; unsettled: by a close, a start or the run's end
@@ -111,53 +111,53 @@ unfoldable pub isOf : ℕ → Option ℕ → Bool
 isOf i none = false
 isOf i (some j) = eqb i j
 
-unfoldable pub fateOf : {Arg Response Told : Type 0} → ℕ → List (Event Arg Response Told) → Fate
+unfoldable pub fateOf : {H : Handed} {Response Told : Type 0} → ℕ → List (Event H Response Told) → Fate
 fateOf i [] = unsettled
 fateOf i (e ∷ es) = pick (isOf i (e .message)) (says (e .answer) (fateOf i es)) (pick (isOf i (e .cuts)) wasCutOff (fateOf i es))
 
 module _ (G : Service) where
-  open Service G using (Core, Arg, Response, Told, check, context)
+  open Service G using (Core, handed, Response, Told, check, context)
 
   -- A message spans the fragments that are not refused. Any other call stands outside, but for a start and a close, which end it.
-  unfoldable pub roleIf : Check → Records Core → Call Arg → Role
+  unfoldable pub roleIf : Check → Records Core → Call handed → Role
   roleIf (refuses n) s c = outside
   roleIf passes s (start a) = ends
   roleIf passes s (opening a) = outside
   roleIf passes s (feed bytes a) = roleOfFragment (s .input) (fragmentIn (context (s .core)) bytes)
-  roleIf passes s (close a) = ends
+  roleIf passes s close = ends
   roleIf passes s (aside a) = outside
 
-  unfoldable pub roleOf : Records Core → Call Arg → Role
+  unfoldable pub roleOf : Records Core → Call handed → Role
   roleOf s c = roleIf (check (s .core) c) s c
 
-  unfoldable pub eventOf : Records Core → Count → Call Arg → Event Arg Response Told
+  unfoldable pub eventOf : Records Core → Count → Call handed → Event handed Response Told
   eventOf s n c =
       record { call = c; answer = step G s c .answer; message = messageOf (roleOf s c) n; cuts = cutBy (roleOf s c) (s .input) n }
 
-  unfoldable pub historyFrom : Records Core → Count → List (Call Arg) → List (Event Arg Response Told)
+  unfoldable pub historyFrom : Records Core → Count → List (Call handed) → List (Event handed Response Told)
   historyFrom s n [] = []
   historyFrom s n (c ∷ cs) = eventOf s n c ∷ historyFrom (step G s c .records) (countAfter (roleOf s c) n) cs
 
   -- a run, in which the host hands the buffers back untouched: its events, its answers, and the records that it leaves
-  unfoldable pub history : Records Core → List (Call Arg) → List (Event Arg Response Told)
+  unfoldable pub history : Records Core → List (Call handed) → List (Event handed Response Told)
   history s cs = historyFrom s (record { begun = 0; goesOn = false }) cs
 
-  unfoldable pub answers : Records Core → List (Call Arg) → List (Answer Response Told)
+  unfoldable pub answers : Records Core → List (Call handed) → List (Answer Response Told)
   answers s [] = []
   answers s (c ∷ cs) = step G s c .answer ∷ answers (step G s c .records) cs
 
-  unfoldable pub after : Records Core → List (Call Arg) → Records Core
+  unfoldable pub after : Records Core → List (Call handed) → Records Core
   after s [] = s
   after s (c ∷ cs) = after (step G s c .records) cs
 
   -- what is left of a run gets the same answers, and ends with the same core
-  pub record Same (s : Records Core) (cs : List (Call Arg)) (left : List (Event Arg Response Told)) : Type 0 where
+  pub record Same (s : Records Core) (cs : List (Call handed)) (left : List (Event handed Response Told)) : Type 0 where
     pub same-answers : answers s (callsOf left) ≡ answersOf left
     pub same-core : after s (callsOf left) .core ≡ after s cs .core
 
   -- DEMAND 3: strike out any set of messages that were answered with a failure, dropped, or cut off by the next command
   unfoldable pub StrikeOut : Type 0
   StrikeOut =
-      (s : Records Core) (cs : List (Call Arg)) (S : ℕ → Bool) →
+      (s : Records Core) (cs : List (Call handed)) (S : ℕ → Bool) →
       ((i : ℕ) → S i ≡ true → strikeable (fateOf i (history s cs)) ≡ true) →
       Same s cs (without S (history s cs))

@@ -1,27 +1,43 @@
 -- Document 01, "Requests": what collecting needs of it. A failure changes no record, by its form.
-use mathlib.Core.List.{List}
+use mathlib.Core.List.{List, []}
 use Prim.Native.Nat.{ℕ}
+use Rattle.strike.specs.declared.Reading.{Reading}
+use Rattle.strike.specs.declared.Came.{Came}
+use Rattle.strike.specs.declared.Came.the-variants.{Absent, Whole, TooLong}
 
--- a command set that is collected: unreadable, or a request without or with a data set
-pub data Reading : Type 0 where
-  unreadable alone withData : Reading
+-- the data set of a request: what came, and its bytes
+pub record DataSet : Type 0 where
+  pub came : Came
+  pub bytes : List ℕ
 
--- the data set of a request: none, its bytes, or more than the message buffer holds
-pub data DataSet : Type 0 where
-  noData : DataSet
-  whole : List ℕ → DataSet
-  tooLong : DataSet
+abbrev pub noData : DataSet
+noData = record { came = Absent; bytes = [] }
+
+abbrev pub whole : List ℕ → DataSet
+whole d = record { came = Whole; bytes = d }
+
+abbrev pub tooLong : DataSet
+tooLong = record { came = TooLong; bytes = [] }
 
 -- what a request comes to: checks 1 to 10 fail it, 11 does it
 pub data Result (Core Response : Type 0) : Type 0 where
   fails : Response → Result Core Response
   does : Core → Response → Result Core Response
 
--- start, open, feed one fragment, close, and a call outside messages, such as take; each with what else is handed over
-pub data Call (Arg : Type 0) : Type 0 where
-  start opening : Arg → Call Arg
-  feed : List ℕ → Arg → Call Arg
-  close aside : Arg → Call Arg
+-- what is handed over with each call beside a fragment, the lengths of lent buffers included; with a close, nothing
+pub record Handed : Type 1 where
+  pub Start : Type 0
+  pub Opening : Type 0
+  pub Feed : Type 0
+  pub Aside : Type 0
+
+-- start, open, feed one fragment, close, and a call outside messages, such as take
+pub data Call (H : Handed) : Type 0 where
+  start : H .Start → Call H
+  opening : H .Opening → Call H
+  feed : List ℕ → H .Feed → Call H
+  close : Call H
+  aside : H .Aside → Call H
 
 -- "A call refused", all lines but the fifth: none of them holds, or the number of the first that does
 pub data Check : Type 0 where
@@ -31,16 +47,15 @@ pub data Check : Type 0 where
 pub record Service : Type 1 where
   -- all that the records hold but the message half collected
   pub Core : Type 0
-  -- what is handed over with a call beside a fragment, the lengths of lent buffers included
-  pub Arg : Type 0
+  pub handed : Handed
   -- what is answered to a request, and to a call outside messages
   pub Response : Type 0
   pub Told : Type 0
-  pub check : Core → Call Arg → Check
-  pub started : Arg → Core
-  pub opened : Core → Arg → Core
+  pub check : Core → Call handed → Check
+  pub started : handed .Start → Core
+  pub opened : Core → handed .Opening → Core
   pub closed : Core → Core
-  pub asked : Core → Arg → Core × Told
+  pub asked : Core → handed .Aside → Core × Told
   -- what the open fixed: the context number, and the length of the message buffer
   pub context : Core → ℕ
   pub room : Core → ℕ

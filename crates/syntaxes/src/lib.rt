@@ -1,5 +1,6 @@
 // Syntaxes: the VR and the header of an element in implicit and in explicit VR.
 use headers::Head;
+use headers::Syntax;
 use headers::length_head;
 use headers::tag_at;
 use octets::u16_at;
@@ -15,6 +16,7 @@ ghost use mathlib.Core.Bool.{true, false};
 ghost use lib.ListN.{length};
 ghost use Rattle.octets.specs.Octets.{numberAt};
 ghost use Rattle.tags.specs.Table.{formOf, implicitVr, differs};
+ghost use Rattle.headers.specs.declared.Syntax.the-variants.{Implicit, Explicit};
 ghost use Rattle.headers.specs.Header.{headAt};
 
 // The VR of an element in implicit VR, by its tag and length.
@@ -54,7 +56,7 @@ fn vr_differs(tag: usize, vr: usize) -> bool
 // The header of an element in implicit VR.
 fn implicit_head(s: &[u8], end: usize, at: usize, floor: usize) -> Head
     requires { ⌜ (at + 8 ≤ end) × (end ≤ length (now s)) × (numberAt 2 (now s) at ≡ 0xFFFE → ⊥) ⌝ }
-    ensures { λ r. ⌜ r ≡ headAt (now (s .entry)) false end at floor ⌝ }
+    ensures { λ r. ⌜ r ≡ headAt (now (s .entry)) Implicit end at floor ⌝ }
 {
     let tag = tag_at(s, at);
     if tag < floor {
@@ -68,7 +70,7 @@ fn implicit_head(s: &[u8], end: usize, at: usize, floor: usize) -> Head
 fn long_head(s: &[u8], end: usize, at: usize, floor: usize) -> Head
     requires { ⌜ (at + 8 ≤ end) × (end ≤ length (now s)) × (numberAt 2 (now s) at ≡ 0xFFFE → ⊥) ⌝ }
     requires { ⌜ formOf (numberAt 2 (now s) (at + 4)) ≡ 12 ⌝ }
-    ensures { λ r. ⌜ r ≡ headAt (now (s .entry)) true end at floor ⌝ }
+    ensures { λ r. ⌜ r ≡ headAt (now (s .entry)) Explicit end at floor ⌝ }
 {
     if end - at < 12 {
         return Head::Fault(1);
@@ -90,7 +92,7 @@ fn long_head(s: &[u8], end: usize, at: usize, floor: usize) -> Head
 // The header of an element in explicit VR.
 fn explicit_head(s: &[u8], end: usize, at: usize, floor: usize) -> Head
     requires { ⌜ (at + 8 ≤ end) × (end ≤ length (now s)) × (numberAt 2 (now s) at ≡ 0xFFFE → ⊥) ⌝ }
-    ensures { λ r. ⌜ r ≡ headAt (now (s .entry)) true end at floor ⌝ }
+    ensures { λ r. ⌜ r ≡ headAt (now (s .entry)) Explicit end at floor ⌝ }
 {
     let vr = u16_at(s, at + 4);
     let form = form_of(vr);
@@ -111,9 +113,9 @@ fn explicit_head(s: &[u8], end: usize, at: usize, floor: usize) -> Head
 }
 
 // The header of an element, whose tag must not be below `floor`.
-pub fn element_head(s: &[u8], explicit: bool, end: usize, at: usize, floor: usize) -> Head
+pub fn element_head(s: &[u8], syntax: Syntax, end: usize, at: usize, floor: usize) -> Head
     requires { ⌜ (at ≤ end) × (end ≤ length (now s)) ⌝ }
-    ensures { λ r. ⌜ r ≡ headAt (now (s .entry)) explicit end at floor ⌝ }
+    ensures { λ r. ⌜ r ≡ headAt (now (s .entry)) syntax end at floor ⌝ }
 {
     if end - at < 8 {
         return Head::Fault(1);
@@ -121,8 +123,8 @@ pub fn element_head(s: &[u8], explicit: bool, end: usize, at: usize, floor: usiz
     if u16_at(s, at) == 0xFFFE {
         return Head::Fault(6);
     }
-    if explicit {
-        return explicit_head(s, end, at, floor);
+    match syntax {
+        Syntax::Implicit => implicit_head(s, end, at, floor),
+        Syntax::Explicit => explicit_head(s, end, at, floor),
     }
-    implicit_head(s, end, at, floor)
 }

@@ -9,7 +9,7 @@ use native.Mathlib.Omega.{arith}
 use lib.Dec.{eqb}
 use lib.ListN.{length, getD, take, replicate, length-take}
 use lib.Seq.{take-suc, take-all}
-use borrow.Author.Tests.{eqb-true, eqb-false, ltb-false, not-false}
+use borrow.Author.Tests.{eqb-true, eqb-false, ltb-false}
 use Rattle.choice.specs.Pick.{pick}
 use Rattle.choice.specs.Rules.{firstBroken}
 use Rattle.choice.proofs.Picks.{Kept}
@@ -26,11 +26,12 @@ use Rattle.rules.specs.declared.Entry.{Entry}
 use Rattle.rules.specs.declared.Queue.{Queue}
 use Rattle.rules.specs.declared.Core.{Core}
 use Rattle.rules.specs.declared.State.{State}
+use Rattle.rules.specs.Bounds.{mostBoxes, ticketPlace, copiesPlace, uidPlace, entryRoom}
 use Rattle.rules.specs.Lists.{filledTo}
-use Rattle.rules.specs.Layout.{pictureFormat, stateFormat, unpack}
+use Rattle.rules.specs.Layout.{pictureFormat, unpack}
 use Rattle.rules.specs.Records.{rootOf, uidOf, noEntry, entriesOf, queued}
 use Rattle.rules.specs.Calls.{takeRules, pictureBytes, entryBytes}
-use Rattle.rules.specs.Sound.{nameSound, sentSound, madeSound, entrySound, coreSound, sound}
+use Rattle.rules.specs.Sound.{nameSound, sentSound, madeSound, entrySound, coreSound}
 use Rattle.writing.proofs.Chain.{laid-next, laid-next-two}
 use Rattle.promises.proofs.ListLaws.{all-true, every-at, Each, each-at, each-take}
 use Rattle.promises.proofs.Facts.{between-true, core-facts, numbers-facts, queue-facts}
@@ -40,8 +41,8 @@ use Rattle.promises.proofs.Kept.{sound-parts}
 use Rattle.promises.proofs.EntryBack.{pictures-length}
 use Rattle.promises.proofs.Unpacked.{unpacked-sized}
 use Rattle.shelves.proofs.Filled.{laid-filled}
-use Rattle.runs.specs.Host.{takeHanded}
-use Rattle.verdicts.proofs.Plans.{none-broken}
+use Rattle.choice.proofs.Broken.{none-broken}
+use Rattle.soundness.proofs.Records.{Found, found-sound}
 
 -- Pictures.
 
@@ -57,14 +58,14 @@ first-pictures (suc n) ps h =
     let p = getD ps n (record { 0 = 0 }) in
     rw (take-suc ps n (record { 0 = 0 }) h, pictures-append (take n ps) (p ∷ []), first-pictures n ps (omega arith), append-nil (octets 4 (p .0)))
 
-all-pictures : (ps : List Picture) → length ps ≡ 36 → bytesAll pictureFormat ps 36 ≡ pictureBytes ps
-all-pictures ps e = first-pictures 36 ps (omega arith) ∙ ap pictureBytes (take-all 36 ps (omega arith))
+all-pictures : (ps : List Picture) → length ps ≡ mostBoxes → bytesAll pictureFormat ps mostBoxes ≡ pictureBytes ps
+all-pictures ps e = first-pictures mostBoxes ps (omega arith) ∙ ap pictureBytes (take-all mostBoxes ps (omega arith))
 
 -- An entry's parts, laid one after the other.
 
-pub entry-laid : (s m n o p : List ℕ) (k : Numbers) (e : Entry) (uid : List ℕ) → 212 ≤ length s → length (e .pictures) ≡ 36
-    → m ≡ write (array 36 pictureFormat) (e .pictures) s 0 → n ≡ laid m 144 (octets 2 (e .ticket)) → o ≡ laid n 146 (octets 2 (e .copies))
-    → uid ≡ filledTo 64 0 (uidOf k (e .film)) → p ≡ laid o 148 uid → p ≡ laid s 0 (entryBytes k e)
+pub entry-laid : (s m n o p : List ℕ) (k : Numbers) (e : Entry) (uid : List ℕ) → entryRoom ≤ length s → length (e .pictures) ≡ mostBoxes
+    → m ≡ write (array mostBoxes pictureFormat) (e .pictures) s 0 → n ≡ laid m ticketPlace (octets 2 (e .ticket)) → o ≡ laid n copiesPlace (octets 2 (e .copies))
+    → uid ≡ filledTo 64 0 (uidOf k (e .film)) → p ≡ laid o uidPlace uid → p ≡ laid s 0 (entryBytes k e)
 unfolding write entryBytes
 entry-laid s m n o p k e uid long full em en eo eu ep =
     let pictures = pictureBytes (e .pictures) in
@@ -73,8 +74,8 @@ entry-laid s m n o p k e uid long full em en eo eu ep =
     let copies = octets-length 2 (e .copies) in
     let laid-pictures = em ∙ ap (laid s 0) (all-pictures (e .pictures) full) in
     let same = ap length laid-pictures ∙ length-laid s 0 pictures (omega arith) in
-    laid-next s m p pictures _ 0 144 (omega arith) (omega arith) laid-pictures
-    (laid-next-two m n o p (octets 2 (e .ticket)) (octets 2 (e .copies)) (filledTo 64 0 (uidOf k (e .film))) 144 146 148 (omega arith) (omega arith) (omega arith) en eo (ep ∙ ap (laid o 148) eu))
+    laid-next s m p pictures _ 0 ticketPlace (omega arith) (omega arith) laid-pictures
+    (laid-next-two m n o p (octets 2 (e .ticket)) (octets 2 (e .copies)) (filledTo 64 0 (uidOf k (e .film))) ticketPlace copiesPlace uidPlace (omega arith) (omega arith) (omega arith) en eo (ep ∙ ap (laid o uidPlace) eu))
 
 -- A queue whose places past the count are blank.
 
@@ -114,17 +115,17 @@ pub record Ready (k : Core) : Type 0 where
   pub kept : coreSound k ≡ true
   pub sized : Sized k
 
-pub ready : (b : List ℕ) (s : State) (t : Bool) → s ≡ stateFormat .read b 0 → t ≡ sound s → bool.not t ≡ false → Bytes b → Ready (s .core)
-unfolding unpack
-ready b s t read told e o =
-    record { kept = sound-parts s (sym told ∙ not-false t e) .0; sized = subst (λ (x : State). Sized (x .core)) (sym read) (unpacked-sized b o) }
+pub ready : {b : List ℕ} {s : State} → Found b s → Bytes b → Ready (s .core)
+ready {b} f o =
+    subst (λ (x : State). Ready (x .core)) (sym (f .same))
+    (record { kept = sound-parts (unpack b) (found-sound f) .0; sized = unpacked-sized b o })
 
 pub ready-tidy : (k : Core) → Ready k → queued (entriesOf (k .queue)) ≡ k .queue
 ready-tidy k r = tidy-queue k (r .kept) (r .sized)
 
-module _ (k : Core) (room : ℕ) (r : Ready k) (e : firstBroken (takeRules k (takeHanded room)) ≡ 0) where
-  unbroken : Kept (takeRules k (takeHanded room))
-  unbroken = none-broken (takeRules k (takeHanded room)) refl e
+module _ (k : Core) (room : ℕ) (r : Ready k) (e : firstBroken (takeRules k room) ≡ 0) where
+  unbroken : Kept (takeRules k room)
+  unbroken = none-broken (takeRules k room) refl e
 
   some : 1 ≤ length (entriesOf (k .queue))
   some = let h = eqb-false (length (entriesOf (k .queue))) 0 (unbroken .1 .0) in omega arith
@@ -139,12 +140,12 @@ module _ (k : Core) (room : ℕ) (r : Ready k) (e : firstBroken (takeRules k (ta
   left-asked = (ready-tidy k r, some-counted, queue-few k (r .kept))
 
   pub put-asked : (x : Entry) → x ≡ getD (entriesOf (k .queue)) 0 noEntry
-      → (212 ≤ room) × (k .numbers .used ≤ 40) × (length (k .numbers .root) ≡ 40) × (length (x .pictures) ≡ 36) × (x .film .used ≤ 64) × (length (x .film .text) ≡ 64)
+      → (entryRoom ≤ room) × (k .numbers .used ≤ 40) × (length (k .numbers .root) ≡ 40) × (length (x .pictures) ≡ 36) × (x .film .used ≤ 64) × (length (x .film .text) ≡ 64)
   put-asked x g =
       let size = subst EntrySized (sym g) (each-at EntrySized (entriesOf (k .queue)) 0 noEntry (entries-sized (k .queue) (r .sized .queue .each)) some) in
       let facts = core-facts k (r .kept) in
       let right = subst (λ (y : Entry). entrySound (k .numbers) y ≡ true) (sym g) (every-at (entrySound (k .numbers)) (entriesOf (k .queue)) 0 noEntry (queue-facts (k .numbers) (k .queue) (facts .queue) .entries) some) in (
-        ltb-false room 212 (unbroken .0),
+        ltb-false room entryRoom (unbroken .0),
         between-true 1 40 (k .numbers .used) (numbers-facts (k .numbers) (facts .numbers) .used) .1,
         r .sized .numbers .root,
         size .pictures,

@@ -1,4 +1,8 @@
 // Taking: the oldest entry of the queue.
+use records::TAKEN;
+use records::TAKEN_COPIES;
+use records::TAKEN_TICKET;
+use records::TAKEN_UID;
 use rules::Core;
 use rules::Entry;
 use rules::Name;
@@ -11,20 +15,17 @@ ghost use lib.ListN.{length, getD, take, drop};
 ghost use Rattle.choice.specs.Rules.{firstBroken};
 ghost use Rattle.octets.specs.Octets.{laid};
 ghost use Rattle.uids.specs.Uids.{made};
+ghost use Rattle.rules.specs.Bounds.{entryRoom};
 ghost use Rattle.rules.specs.Lists.{filledTo};
 ghost use Rattle.rules.specs.Records.{rootOf, uidOf, noEntry, entriesOf, queued, withQueue};
 ghost use Rattle.rules.specs.Calls.{takeRules, entryBytes};
-ghost use Rattle.runs.specs.Host.{takeHanded};
 ghost use Rattle.runs.specs.Contracts.{TakeMet};
-
-// The bytes of the records.
-const RECORDS: usize = 7080;
 
 fn take_refusal(k: Core, room: usize) -> u32
     requires { ⌜ queued (entriesOf (k .queue)) ≡ k .queue ⌝ }
-    ensures { λ r. ⌜ r ≡ firstBroken (takeRules k (takeHanded room)) ⌝ }
+    ensures { λ r. ⌜ r ≡ firstBroken (takeRules k room) ⌝ }
 {
-    if room < 212 {
+    if room < TAKEN {
         return 2;
     }
     let queue = k.queue;
@@ -71,16 +72,16 @@ fn uid_filled(n: Numbers, name: Name) -> [u8; 64]
 
 // "36 pictures of 4, ticket and copies of 2, little endian, the UID zero-filled to 64"
 fn put_entry_bytes(out: &mut [u8], n: Numbers, e: Entry)
-    requires { ⌜ (212 ≤ length (now out)) × (n .used ≤ 40) × (length (n .root) ≡ 40) × (length (e .pictures) ≡ 36) × (e .film .used ≤ 64) × (length (e .film .text) ≡ 64) ⌝ }
+    requires { ⌜ (entryRoom ≤ length (now out)) × (n .used ≤ 40) × (length (n .root) ≡ 40) × (length (e .pictures) ≡ 36) × (e .film .used ≤ 64) × (length (e .film .text) ≡ 64) ⌝ }
     ensures { λ _. ⌜ now (out .exit) ≡ laid (now (out .entry)) 0 (entryBytes n e) ⌝ }
 {
     let pictures = e.pictures;
     records::put_pictures(out, 0, pictures);
-    octets::put_number(out, 144, 2, e.ticket as u64);
-    octets::put_number(out, 146, 2, e.copies as u64);
+    octets::put_number(out, TAKEN_TICKET, 2, e.ticket as u64);
+    octets::put_number(out, TAKEN_COPIES, 2, e.copies as u64);
     let film = e.film;
     let uid = uid_filled(n, film);
-    octets::put(out, 148, &uid);
+    octets::put(out, TAKEN_UID, &uid);
 }
 
 fn oldest(queue: Queue) -> Entry
@@ -113,13 +114,11 @@ fn without_oldest(k: Core) -> Core
 pub fn take(records: &mut [u8], entry: &mut [u8]) -> u32
     ensures { λ r. ⌜ TakeMet (now (records .entry)) (now (entry .entry)) r (now (records .exit)) (now (entry .exit)) ⌝ }
 {
-    if records.len() < RECORDS {
-        return 2;
+    let found = soundness::unpack_checked(records);
+    if found.refusal != 0 {
+        return found.refusal;
     }
-    let state = records::state_at(records, 0);
-    if !soundness::state_sound(state) {
-        return 1;
-    }
+    let state = found.state;
     let core = state.core;
     let refusal = take_refusal(core, entry.len());
     if refusal != 0 {

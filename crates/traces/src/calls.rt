@@ -108,7 +108,7 @@ fn feed_line(
 }
 
 fn take(records: &mut [u8], reply: &[u8]) -> bool {
-    let mut entry = [0; 212];
+    let mut entry = [0; records::TAKEN];
     let n = gateway::gateway_take(records, &mut entry);
     if n == 0 {
         return is_entry(reply, &entry);

@@ -138,7 +138,7 @@ fn replay(i: usize, j: usize) {
     let calls = read(i, &mut trace);
     let mut kept = io::large_buffer();
     let told = read(j, &mut kept);
-    let mut records = [0; 7080];
+    let mut records = [0; records::RECORDS];
     let mut message = message_buffer();
     print_argument(i);
     print(b": ");

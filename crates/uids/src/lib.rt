@@ -76,6 +76,14 @@ pub fn unpadded_length(s: &[u8]) -> usize
     if s[n - 1] == 0 { n - 1 } else { n }
 }
 
+// A UI value without its padding.
+pub fn unpadded(v: &[u8]) -> &[u8]
+    ensures { λ r. ⌜ now r ≡ unpadded (now (v .entry)) ⌝ }
+{
+    let n = unpadded_length(v);
+    &v[0..n]
+}
+
 // Whether a UID begins with a root and a dot.
 pub fn begins_with(root: &[u8], uid: &[u8]) -> bool
     ensures { λ r. ⌜ r ≡ beginsWith (now (root .entry)) (now (uid .entry)) ⌝ }

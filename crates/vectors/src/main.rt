@@ -8,6 +8,8 @@ use elements::Items;
 use elements::Read;
 use headers::Inside;
 use headers::Part;
+use headers::Scope;
+use headers::Syntax;
 use libc::STDOUT_FILENO;
 
 const NAMED: [usize; 35] = [
@@ -100,6 +102,18 @@ fn kept(s: &[u8], part: Inside) -> Inside
     part
 }
 
+// What a sequence or an item holds, with room for so many sequences within one another.
+fn scope_in(s: &[u8], syntax: Syntax, room: usize, part: Inside) -> Scope
+    ensures { λ r. ⌜ (r .inside .from ≤ r .inside .stop) × (r .inside .stop ≤ length (now (s .entry))) ⌝ }
+{
+    let inside = kept(s, part);
+    Scope {
+        syntax,
+        room,
+        inside,
+    }
+}
+
 // A value's bytes, or a mark where it has none.
 fn print_value(s: &[u8], value: Part) {
     let part = kept(
@@ -121,8 +135,8 @@ fn print_value(s: &[u8], value: Part) {
 }
 
 // How many items a sequence inside an item has.
-fn print_inner_items(s: &[u8], explicit: bool, sequence: Inside) {
-    match finding::items_in(s, explicit, 2, kept(s, sequence)) {
+fn print_inner_items(s: &[u8], syntax: Syntax, sequence: Inside) {
+    match finding::items_in(s, scope_in(s, syntax, 2, sequence)) {
         Items::Empty => print_count(0),
         Items::One(_) => print_count(1),
         Items::Several(n) => print_count(n),
@@ -130,8 +144,8 @@ fn print_inner_items(s: &[u8], explicit: bool, sequence: Inside) {
 }
 
 // What the only item of the sequence `over` holds under a tag.
-fn print_inner(s: &[u8], explicit: bool, over: usize, item: Inside, tag: usize) {
-    match finding::find(s, explicit, 3, kept(s, item), tag) {
+fn print_inner(s: &[u8], syntax: Syntax, over: usize, item: Inside, tag: usize) {
+    match finding::find(s, scope_in(s, syntax, 3, item), tag) {
         Found::Missing => {}
         Found::Value(value) => {
             print_tag(over, tag);
@@ -139,40 +153,35 @@ fn print_inner(s: &[u8], explicit: bool, over: usize, item: Inside, tag: usize) 
         }
         Found::Sequence(sequence) => {
             print_tag(over, tag);
-            print_inner_items(s, explicit, sequence);
+            print_inner_items(s, syntax, sequence);
         }
     }
 }
 
-fn print_item(s: &[u8], explicit: bool, over: usize, item: Inside) {
+fn print_item(s: &[u8], syntax: Syntax, over: usize, item: Inside) {
     let mut i = 0;
     while i < 35 {
         let tag = NAMED[i];
-        print_inner(s, explicit, over, item, tag);
+        print_inner(s, syntax, over, item, tag);
         i += 1;
     }
 }
 
 // How many items a sequence has, and what the only one holds.
-fn print_items(s: &[u8], explicit: bool, tag: usize, sequence: Inside) {
-    match finding::items_in(s, explicit, 3, kept(s, sequence)) {
+fn print_items(s: &[u8], syntax: Syntax, tag: usize, sequence: Inside) {
+    match finding::items_in(s, scope_in(s, syntax, 3, sequence)) {
         Items::Empty => print_count(0),
         Items::One(item) => {
             print_count(1);
-            print_item(s, explicit, tag, item);
+            print_item(s, syntax, tag, item);
         }
         Items::Several(n) => print_count(n),
     }
 }
 
 // What the data set holds under a tag.
-fn print_outer(s: &[u8], explicit: bool, tag: usize) {
-    let whole = Inside {
-        from: 0,
-        stop: s.len(),
-        loose: false,
-    };
-    match finding::find(s, explicit, 4, whole, tag) {
+fn print_outer(s: &[u8], syntax: Syntax, tag: usize) {
+    match finding::find(s, elements::data_scope(s, syntax), tag) {
         Found::Missing => {}
         Found::Value(value) => {
             print_tag(0, tag);
@@ -180,22 +189,22 @@ fn print_outer(s: &[u8], explicit: bool, tag: usize) {
         }
         Found::Sequence(sequence) => {
             print_tag(0, tag);
-            print_items(s, explicit, tag, sequence);
+            print_items(s, syntax, tag, sequence);
         }
     }
 }
 
-fn print_data_set(s: &[u8], explicit: bool) {
+fn print_data_set(s: &[u8], syntax: Syntax) {
     let mut i = 0;
     while i < 35 {
         let tag = NAMED[i];
-        print_outer(s, explicit, tag);
+        print_outer(s, syntax, tag);
         i += 1;
     }
 }
 
-fn report(s: &[u8], explicit: bool) {
-    match elements::data_set(s, explicit) {
+fn report(s: &[u8], syntax: Syntax) {
+    match elements::data_set(s, syntax) {
         Read::Refused(n) => {
             print(b" refused ");
             io::print_decimal(STDOUT_FILENO, n as u64);
@@ -206,26 +215,34 @@ fn report(s: &[u8], explicit: bool) {
                 print(b" not to its end");
             }
             print(b" read\n");
-            print_data_set(s, explicit);
+            print_data_set(s, syntax);
         }
     }
+}
+
+// The syntax that a word beginning so names.
+fn syntax_named(first: u8) -> Syntax {
+    if first == b'e' {
+        return Syntax::Explicit;
+    }
+    Syntax::Implicit
 }
 
 // The file that one argument names, in the syntax that another does.
 fn report_file(i: usize, j: usize) {
     let mut name = io::buffer();
     let n = os::arg(i, &mut name);
-    let mut syntax = io::buffer();
-    let m = os::arg(j, &mut syntax);
+    let mut named = io::buffer();
+    let m = os::arg(j, &mut named);
     print(&name[..n]);
     print(b" ");
-    print(&syntax[..m]);
-    let explicit = syntax[0] == b'e';
+    print(&named[..m]);
+    let syntax = syntax_named(named[0]);
     let fd = os::open_read(&name[..n]);
     let mut bytes = io::buffer();
     let got = io::read_full(fd, &mut bytes);
     libc::close(fd);
-    report(&bytes[..got], explicit);
+    report(&bytes[..got], syntax);
 }
 
 fn main() {

@@ -1,3 +1,2 @@
--- The laws of verdicts.
-pub mod Laws
+-- The laws of plans.
 pub mod Plans

@@ -1,51 +1,19 @@
-// Verdicts: what a request comes to, and the verdicts that change no record.
+// Verdicts: the names that a verdict has, and the verdicts that change no record.
 use headers::Part;
+use rules::Contents;
 use rules::Core;
 use rules::Name;
+use rules::Note;
 use rules::Operation;
 use rules::Request;
+use rules::Verdict;
 ghost use mathlib.Core.Path.{_≡_};
-ghost use mathlib.Core.Bool.{true};
 ghost use lib.ListN.{length};
 ghost use Rattle.rules.specs.Commands.{uidAt};
 ghost use Rattle.rules.specs.Records.{sentName};
-ghost use Rattle.rules.specs.Checks.{failed};
+ghost use Rattle.rules.specs.Checks.{quietly, sentOrNone, failedName, failed};
 ghost use Rattle.commands.specs.Within.{PartIn};
-ghost use Rattle.verdicts.specs.Verdicts.{noNewBoxes, meant, failing, quiet, sentOrNone, failedName};
 ghost use Rattle.verdicts.specs.Ready.{UidIn, UidsIn};
-
-// A response's note: none 0, how many films were queued 1, a picture's number with place and length of its pixels 2.
-pub struct Notice {
-    pub kind: u16,
-    pub first: u32,
-    pub second: u32,
-    pub third: u32,
-}
-
-pub const NO_NOTICE: Notice = Notice {
-    kind: 0,
-    first: 0,
-    second: 0,
-    third: 0,
-};
-
-// The boxes of a created film, by the first's serial; none where no film was created.
-pub struct NewBoxes {
-    pub first: u32,
-    pub count: u8,
-}
-
-pub const NO_NEW_BOXES: NewBoxes = NewBoxes { first: 0, count: 0 };
-
-// What a request comes to: done or failed, the status, the core afterwards, the instance that the response names.
-pub struct Verdict {
-    pub done: bool,
-    pub status: u16,
-    pub core: Core,
-    pub instance: Name,
-    pub notice: Notice,
-    pub boxes: NewBoxes,
-}
 
 // The UID at a place of the command, as a name that was sent.
 pub fn name_at(c: &[u8], p: Part) -> Name
@@ -55,29 +23,17 @@ pub fn name_at(c: &[u8], p: Part) -> Name
     shelves::sent_name(instances::uid_at(c, p))
 }
 
+// Done, with nothing to tell but an instance.
 pub fn quiet(k: Core, name: Name) -> Verdict
-    ensures { λ r. ⌜ r ≡ quiet k name ⌝ }
+    ensures { λ r. ⌜ r ≡ quietly k name ⌝ }
 {
     Verdict {
         done: true,
         status: 0,
         core: k,
         instance: name,
-        notice: NO_NOTICE,
-        boxes: NO_NEW_BOXES,
-    }
-}
-
-fn failing(k: Core, name: Name, status: u16) -> Verdict
-    ensures { λ r. ⌜ r ≡ failing k name status ⌝ }
-{
-    Verdict {
-        done: false,
-        status: status,
-        core: k,
-        instance: name,
-        notice: NO_NOTICE,
-        boxes: NO_NEW_BOXES,
+        note: Note::NoNote,
+        contents: Contents::Nothing,
     }
 }
 
@@ -109,11 +65,19 @@ fn failed_name(c: &[u8], operation: Operation) -> Name
     }
 }
 
-// A failure with this status: nothing changes.
-pub fn failed(k: Core, c: &[u8], request: Request, status: u16) -> Verdict
+// A failure with this note and this status: nothing changes.
+pub fn failed(k: Core, c: &[u8], request: Request, note: Note, status: u16) -> Verdict
     requires { ⌜ UidsIn (now c) (request .operation) ⌝ }
-    ensures { λ r. ⌜ (meant k (now (c .entry)) request r ≡ failed (now (c .entry)) request status) × (r .core ≡ k) × (r .boxes ≡ noNewBoxes) ⌝ }
+    ensures { λ r. ⌜ r ≡ failed k (now (c .entry)) request note status ⌝ }
 {
     let operation = request.operation;
-    failing(k, failed_name(c, operation), status)
+    let name = failed_name(c, operation);
+    Verdict {
+        done: false,
+        status: status,
+        core: k,
+        instance: name,
+        note,
+        contents: Contents::Nothing,
+    }
 }

@@ -12,7 +12,15 @@ use Rattle.choice.specs.Pick.{pick, both, not}
 use Rattle.choice.specs.Table.{lookup}
 use Rattle.choice.proofs.Picks.{pick-cases, both-true, not-true, clash}
 use Rattle.tags.specs.Table.{SQ, forms, formOf, namedVr, implicitVr, differs, undefined}
+use Rattle.headers.specs.declared.Syntax.{Syntax}
+use Rattle.headers.specs.declared.Syntax.the-variants.{Implicit, Explicit}
+use Rattle.headers.specs.Header.{isExplicit}
 use Rattle.writing.specs.Fit.{allowed, limit}
+
+-- which VRs a tag may have, under one name
+unfoldable pub theForms : Unit {0}
+unfolding allowed formOf namedVr differs
+theForms = tt
 
 module _ (tag vr : ℕ) (a : allowed tag vr ≡ true) where
   pub four-bytes : tag < 4294967296
@@ -52,14 +60,14 @@ unfolding formOf below
 two-bytes vr k = key-below 65536 vr forms refl k
 
 -- a length below the limit is defined
-pub below-undefined : (explicit : Bool) (vr size : ℕ) → size < limit explicit vr → size < 0xFFFF_FFFF
+pub below-undefined : (syntax : Syntax) (vr size : ℕ) → size < limit syntax vr → size < 0xFFFF_FFFF
 unfolding limit
-below-undefined explicit vr size = pick-cases (λ (n : ℕ). size < n → size < 0xFFFF_FFFF) (both explicit (not (eqb (formOf vr) 12))) _ _ (λ _ h. omega arith) (λ _ h. omega arith)
+below-undefined syntax vr size = pick-cases (λ (n : ℕ). size < n → size < 0xFFFF_FFFF) (both (isExplicit syntax) (not (eqb (formOf vr) 12))) _ _ (λ _ h. omega arith) (λ _ h. omega arith)
 
 -- a length of 16 bits is below the limit, whatever the syntax and the VR
-pub below-limit : (explicit : Bool) (vr size : ℕ) → size < 65536 → size < limit explicit vr
+pub below-limit : (syntax : Syntax) (vr size : ℕ) → size < 65536 → size < limit syntax vr
 unfolding limit
-below-limit explicit vr size h = pick-cases (λ (n : ℕ). size < n) (both explicit (not (eqb (formOf vr) 12))) _ _ (λ _. omega arith) (λ _. omega arith)
+below-limit syntax vr size h = pick-cases (λ (n : ℕ). size < n) (both (isExplicit syntax) (not (eqb (formOf vr) 12))) _ _ (λ _. omega arith) (λ _. omega arith)
 
 pixels-vr : (tag : ℕ) → tag ≡ 0x7FE0_0010 → eqb (namedVr tag) SQ ≡ false
 unfolding namedVr
@@ -76,19 +84,19 @@ no-sequence tag vr d n q = by (eqb (namedVr tag) vr) refl (eqb tag 0x7FE0_0010) 
     by false e false f = absurd (clash {b = true} (rw (n, e, f) at d) refl)
 
 -- the VR that the reader takes an element of a defined length to have
-abbrev pub readVr : Bool → ℕ → ℕ → ℕ → ℕ
-readVr explicit tag vr size = pick explicit vr (implicitVr tag size)
+abbrev pub readVr : Syntax → ℕ → ℕ → ℕ → ℕ
+readVr syntax tag vr size = pick (isExplicit syntax) vr (implicitVr tag size)
 
-pub value-vr : (explicit : Bool) (tag vr size : ℕ) → allowed tag vr ≡ true → eqb vr SQ ≡ false → size < 0xFFFF_FFFF → eqb (readVr explicit tag vr size) SQ ≡ false
+pub value-vr : (syntax : Syntax) (tag vr size : ℕ) → allowed tag vr ≡ true → eqb vr SQ ≡ false → size < 0xFFFF_FFFF → eqb (readVr syntax tag vr size) SQ ≡ false
 unfolding implicitVr
-value-vr true tag vr size a q h = q
-value-vr false tag vr size a q h = by (eqb (namedVr tag) 0) refl
+value-vr Explicit tag vr size a q h = q
+value-vr Implicit tag vr size a q h = by (eqb (namedVr tag) 0) refl
   where
     by : (t : Bool) → eqb (namedVr tag) 0 ≡ t → eqb (pick (eqb (namedVr tag) 0) (pick (undefined size) SQ 0x4E55) (namedVr tag)) SQ ≡ false
     by true e = rw (e, ne-eqb size 0xFFFF_FFFF (λ z. omega arith))
     by false e = rw e (no-sequence tag vr (own tag vr a) e q)
 
-pub sequence-vr : (explicit : Bool) (tag size : ℕ) → namedVr tag ≡ SQ → readVr explicit tag SQ size ≡ SQ
+pub sequence-vr : (syntax : Syntax) (tag size : ℕ) → namedVr tag ≡ SQ → readVr syntax tag SQ size ≡ SQ
 unfolding implicitVr
-sequence-vr true tag size e = refl
-sequence-vr false tag size e = rw e
+sequence-vr Explicit tag size e = refl
+sequence-vr Implicit tag size e = rw e

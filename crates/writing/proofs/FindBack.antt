@@ -11,6 +11,7 @@ use borrow.Author.Tests.{eqb-true, eqb-false}
 use Rattle.choice.specs.Pick.{pick}
 use Rattle.octets.specs.Octets.{part}
 use Rattle.octets.proofs.Laid.{Stands}
+use Rattle.headers.specs.declared.Syntax.{Syntax}
 use Rattle.headers.specs.declared.Part.{Part}
 use Rattle.headers.specs.declared.Inside.{Inside}
 use Rattle.headers.specs.declared.Head.{Head}
@@ -19,7 +20,7 @@ use Rattle.headers.specs.Header.{tagAt, headAt}
 use Rattle.elements.specs.declared.Read.the-variants.{Past}
 use Rattle.elements.specs.declared.Found.{Found}
 use Rattle.elements.specs.declared.Found.the-variants.{Value, Sequence}
-use Rattle.elements.specs.Reader.{itemEnd, elementAt}
+use Rattle.elements.specs.Reader.{itemEnd, elementAt, scopeOf}
 use Rattle.elements.specs.Find.{elementsFrom, found, among, findAt}
 use Rattle.elements.proofs.Laws.{find-done, find-here, find-more}
 use Rattle.writing.specs.Tree.{Elements, noElements, value, sequence, Items, noItems}
@@ -31,60 +32,60 @@ use Rattle.writing.proofs.HeaderBack.{header-back, value-head, sequence
 use Rattle.writing.proofs.ListBack.{between, mark, items-even, not-yet, ended, header-stands, held-stands, more-stands, stop-after, value-past, sequence-past, items-back}
 
 -- what the reader finds from an element on: that element, or what it finds behind it
-step : (s : List ℕ) (explicit : Bool) (room from stop at floor t vr tag : ℕ) (held more : List ℕ) (d : Head) → HeaderFits explicit floor t vr (length held)
-    → Stands s at (headed explicit t vr held ++ more) → at + headerSize explicit vr + length held ≤ stop
-    → headAt s explicit stop at floor ≡ d
-    → elementAt s explicit room stop at floor ≡ Past (at + headerSize explicit vr + length held)
-    → among s explicit stop tag (elementsFrom s explicit room (between from stop) (mark at floor))
-    ≡ pick (eqb t tag) (found d) (among s explicit stop tag (elementsFrom s explicit room (between from stop) (mark (at + headerSize explicit vr + length held) (t + 1))))
-step s explicit room from stop at floor t vr tag held more d f e r h p = by (eqb t tag) refl
+step : (s : List ℕ) (syntax : Syntax) (room from stop at floor t vr tag : ℕ) (held more : List ℕ) (d : Head) → HeaderFits syntax floor t vr (length held)
+    → Stands s at (headed syntax t vr held ++ more) → at + headerSize syntax vr + length held ≤ stop
+    → headAt s syntax stop at floor ≡ d
+    → elementAt s syntax room stop at floor ≡ Past (at + headerSize syntax vr + length held)
+    → among s syntax stop tag (elementsFrom s (scopeOf syntax room (between from stop)) (mark at floor))
+    ≡ pick (eqb t tag) (found d) (among s syntax stop tag (elementsFrom s (scopeOf syntax room (between from stop)) (mark (at + headerSize syntax vr + length held) (t + 1))))
+step s syntax room from stop at floor t vr tag held more d f e r h p = by (eqb t tag) refl
   where
-    k : 8 ≤ headerSize explicit vr
-    k = size-between explicit vr .0
+    k : 8 ≤ headerSize syntax vr
+    k = size-between syntax vr .0
 
     tag-is : tagAt s at ≡ t
-    tag-is = header-back s explicit at t vr (length held) (f .1) (f .2) (header-stands s explicit at t vr held more e) .tag-is
+    tag-is = header-back s syntax at t vr (length held) (f .1) (f .2) (header-stands s syntax at t vr held more e) .tag-is
 
     by : (b : Bool) → eqb t tag ≡ b
-        → among s explicit stop tag (elementsFrom s explicit room (between from stop) (mark at floor))
-        ≡ pick b (found d) (among s explicit stop tag (elementsFrom s explicit room (between from stop) (mark (at + headerSize explicit vr + length held) (t + 1))))
+        → among s syntax stop tag (elementsFrom s (scopeOf syntax room (between from stop)) (mark at floor))
+        ≡ pick b (found d) (among s syntax stop tag (elementsFrom s (scopeOf syntax room (between from stop)) (mark (at + headerSize syntax vr + length held) (t + 1))))
     by true c =
-        find-here s explicit room (between from stop) at (omega arith) floor tag (not-yet s itemEnd from stop at (omega (arith, k))) p (tag-is ∙ eqb-true t tag c) ∙ rw h
+        find-here s (scopeOf syntax room (between from stop)) at (omega arith) floor tag (not-yet s itemEnd from stop at (omega (arith, k))) p (tag-is ∙ eqb-true t tag c) ∙ rw h
     by false c =
-        find-more s explicit room (between from stop) at (omega arith) floor tag (not-yet s itemEnd from stop at (omega (arith, k))) p (λ z. eqb-false t tag c (sym tag-is ∙ z)) ∙ rw tag-is
+        find-more s (scopeOf syntax room (between from stop)) at (omega arith) floor tag (not-yet s itemEnd from stop at (omega (arith, k))) p (λ z. eqb-false t tag c (sym tag-is ∙ z)) ∙ rw tag-is
 
 -- the rest of a list, from a place on
-find-from : (elements : Elements) (s : List ℕ) (explicit : Bool) (room from stop at floor tag : ℕ) → Fit explicit room floor elements → stop ≡ at + length (written explicit elements) → Stands s at (written explicit elements)
-    → among s explicit stop tag (elementsFrom s explicit room (between from stop) (mark at floor)) ≡ placeIn explicit at tag elements
+find-from : (elements : Elements) (s : List ℕ) (syntax : Syntax) (room from stop at floor tag : ℕ) → Fit syntax room floor elements → stop ≡ at + length (written syntax elements) → Stands s at (written syntax elements)
+    → among s syntax stop tag (elementsFrom s (scopeOf syntax room (between from stop)) (mark at floor)) ≡ placeIn syntax at tag elements
 unfolding written element placeIn
-find-from noElements s explicit room from stop at floor tag f n e =
+find-from noElements s syntax room from stop at floor tag f n e =
     let z : stop ≡ at = omega arith in
-    rw z (find-done s explicit room (between from at) at (omega arith) floor tag (ended s itemEnd from at))
-find-from (value t vr bytes more) s explicit room from stop at floor tag f n e =
+    rw z (find-done s (scopeOf syntax room (between from at)) at (omega arith) floor tag (ended s itemEnd from at))
+find-from (value t vr bytes more) s syntax room from stop at floor tag f n e =
     let held = padded vr bytes in
-    let rest = written explicit more in
-    let k = stop-after explicit stop at t vr held rest n in
-    step s explicit room from stop at floor t vr tag held rest _ (f .0) e (omega arith)
-    (value-head s explicit stop at floor t vr (length held) (f .0) (padded-even vr bytes) (omega arith) (header-stands s explicit at t vr held rest e) (f .1))
-    (value-past s explicit room stop at floor t vr held rest (f .0) (f .1) (padded-even vr bytes) e (omega arith))
-    ∙ ap (λ (d : Found). pick (eqb t tag) (Value (record { from = at + headerSize explicit vr; stop = at + headerSize explicit vr + length held })) d)
-    (find-from more s explicit room from stop (at + headerSize explicit vr + length held) (t + 1) tag (f .2) k (more-stands s explicit at t vr held rest e))
-find-from (sequence t items more) s explicit room from stop at floor tag f n e =
-    let held = writtenItems explicit items in
-    let rest = written explicit more in
-    let k = stop-after explicit stop at t SQ held rest n in
-    step s explicit room from stop at floor t SQ tag held rest _ (f .0) e (omega arith)
-    (sequence-head s explicit stop at floor t (length held) (f .0) (items-even explicit items) (omega arith) (header-stands s explicit at t SQ held rest e) (f .1))
-    (sequence-past s explicit room stop at floor t held rest (f .0) (f .1) (f .2) (items-even explicit items) e (omega arith)
-    (items-back items s explicit (room - 1) (at + headerSize explicit SQ) (at + headerSize explicit SQ + length held) (at + headerSize explicit SQ) (f .3) refl (held-stands s explicit at t SQ held rest e)))
-    ∙ ap (λ (d : Found). pick (eqb t tag) (Sequence (span (at + headerSize explicit SQ) (length held))) d)
-    (find-from more s explicit room from stop (at + headerSize explicit SQ + length held) (t + 1) tag (f .4) k (more-stands s explicit at t SQ held rest e))
+    let rest = written syntax more in
+    let k = stop-after syntax stop at t vr held rest n in
+    step s syntax room from stop at floor t vr tag held rest _ (f .0) e (omega arith)
+    (value-head s syntax stop at floor t vr (length held) (f .0) (padded-even vr bytes) (omega arith) (header-stands s syntax at t vr held rest e) (f .1))
+    (value-past s syntax room stop at floor t vr held rest (f .0) (f .1) (padded-even vr bytes) e (omega arith))
+    ∙ ap (λ (d : Found). pick (eqb t tag) (Value (record { from = at + headerSize syntax vr; stop = at + headerSize syntax vr + length held })) d)
+    (find-from more s syntax room from stop (at + headerSize syntax vr + length held) (t + 1) tag (f .2) k (more-stands s syntax at t vr held rest e))
+find-from (sequence t items more) s syntax room from stop at floor tag f n e =
+    let held = writtenItems syntax items in
+    let rest = written syntax more in
+    let k = stop-after syntax stop at t SQ held rest n in
+    step s syntax room from stop at floor t SQ tag held rest _ (f .0) e (omega arith)
+    (sequence-head s syntax stop at floor t (length held) (f .0) (items-even syntax items) (omega arith) (header-stands s syntax at t SQ held rest e) (f .1))
+    (sequence-past s syntax room stop at floor t held rest (f .0) (f .1) (f .2) (items-even syntax items) e (omega arith)
+    (items-back items s syntax (room - 1) (at + headerSize syntax SQ) (at + headerSize syntax SQ + length held) (at + headerSize syntax SQ) (f .3) refl (held-stands s syntax at t SQ held rest e)))
+    ∙ ap (λ (d : Found). pick (eqb t tag) (Sequence (span (at + headerSize syntax SQ) (length held))) d)
+    (find-from more s syntax room from stop (at + headerSize syntax SQ + length held) (t + 1) tag (f .4) k (more-stands s syntax at t SQ held rest e))
 
 -- What was written under a tag the reader finds where it was written, and nothing under another.
-pub find-back : (s : List ℕ) (explicit : Bool) (room at tag : ℕ) (elements : Elements) → Fit explicit room 0 elements → Stands s at (written explicit elements)
-    → findAt s explicit room (span at (length (written explicit elements))) tag ≡ placeIn explicit at tag elements
+pub find-back : (s : List ℕ) (syntax : Syntax) (room at tag : ℕ) (elements : Elements) → Fit syntax room 0 elements → Stands s at (written syntax elements)
+    → findAt s (scopeOf syntax room (span at (length (written syntax elements)))) tag ≡ placeIn syntax at tag elements
 unfolding findAt
-find-back s explicit room at tag elements f e = find-from elements s explicit room at (at + length (written explicit elements)) at 0 tag f refl e
+find-back s syntax room at tag elements f e = find-from elements s syntax room at (at + length (written syntax elements)) at 0 tag f refl e
 
 -- What stands there is what was meant.
 
@@ -105,58 +106,58 @@ no-value true s x p rest others on e = let z : _≡_ {A = ℕ} 0 1 = cc in absur
 no-value false s x p rest others on e = on e
 
 -- Where a value is found, it is the one that was written, padded.
-pub value-meant : (elements : Elements) (s : List ℕ) (explicit : Bool) (at tag : ℕ) (p : Part) → Stands s at (written explicit elements)
-    → placeIn explicit at tag elements ≡ Value p → part s (p .from) (p .stop) ≡ valueUnder tag elements
+pub value-meant : (elements : Elements) (s : List ℕ) (syntax : Syntax) (at tag : ℕ) (p : Part) → Stands s at (written syntax elements)
+    → placeIn syntax at tag elements ≡ Value p → part s (p .from) (p .stop) ≡ valueUnder tag elements
 unfolding written element placeIn valueUnder
-value-meant noElements s explicit at tag p e h = let z : _≡_ {A = ℕ} 0 1 = cc in absurd (omega arith)
-value-meant (value t vr bytes more) s explicit at tag p e h =
+value-meant noElements s syntax at tag p e h = let z : _≡_ {A = ℕ} 0 1 = cc in absurd (omega arith)
+value-meant (value t vr bytes more) s syntax at tag p e h =
     let held = padded vr bytes in
-    let rest = written explicit more in
-    value-or (eqb t tag) s (record { from = at + headerSize explicit vr; stop = at + headerSize explicit vr + length held }) p
-    (placeIn explicit (at + headerSize explicit vr + length held) tag more) held (valueUnder tag more)
-    (held-stands s explicit at t vr held rest e)
-    (value-meant more s explicit (at + headerSize explicit vr + length held) tag p (more-stands s explicit at t vr held rest e))
+    let rest = written syntax more in
+    value-or (eqb t tag) s (record { from = at + headerSize syntax vr; stop = at + headerSize syntax vr + length held }) p
+    (placeIn syntax (at + headerSize syntax vr + length held) tag more) held (valueUnder tag more)
+    (held-stands s syntax at t vr held rest e)
+    (value-meant more s syntax (at + headerSize syntax vr + length held) tag p (more-stands s syntax at t vr held rest e))
     h
-value-meant (sequence t items more) s explicit at tag p e h =
-    let held = writtenItems explicit items in
-    let rest = written explicit more in
-    no-value (eqb t tag) s (span (at + headerSize explicit SQ) (length held)) p (placeIn explicit (at + headerSize explicit SQ + length held) tag more) (valueUnder tag more)
-    (value-meant more s explicit (at + headerSize explicit SQ + length held) tag p (more-stands s explicit at t SQ held rest e))
+value-meant (sequence t items more) s syntax at tag p e h =
+    let held = writtenItems syntax items in
+    let rest = written syntax more in
+    no-value (eqb t tag) s (span (at + headerSize syntax SQ) (length held)) p (placeIn syntax (at + headerSize syntax SQ + length held) tag more) (valueUnder tag more)
+    (value-meant more s syntax (at + headerSize syntax SQ + length held) tag p (more-stands s syntax at t SQ held rest e))
     h
 
 -- Where items stand that fit to be written, with their length.
-pub record ItemsStand (s : List ℕ) (explicit : Bool) (room : ℕ) (inside : Inside) (items : Items) : Type 0 where
-  pub fit : FitItems explicit room items
-  pub stands : Stands s (inside .from) (writtenItems explicit items)
-  pub whole : inside ≡ span (inside .from) (length (writtenItems explicit items))
+pub record ItemsStand (s : List ℕ) (syntax : Syntax) (room : ℕ) (inside : Inside) (items : Items) : Type 0 where
+  pub fit : FitItems syntax room items
+  pub stands : Stands s (inside .from) (writtenItems syntax items)
+  pub whole : inside ≡ span (inside .from) (length (writtenItems syntax items))
 
-items-or : (b : Bool) (s : List ℕ) (explicit : Bool) (room : ℕ) (x i : Inside) (rest : Found) (items others : Items) → ItemsStand s explicit room x items → (rest ≡ Sequence i → ItemsStand s explicit room i others)
-    → pick b (Sequence x) rest ≡ Sequence i → ItemsStand s explicit room i (pick b items others)
-items-or true s explicit room x i rest items others h on e = subst (λ (y : Inside). ItemsStand s explicit room y items) (same-inside e) h
-items-or false s explicit room x i rest items others h on e = on e
+items-or : (b : Bool) (s : List ℕ) (syntax : Syntax) (room : ℕ) (x i : Inside) (rest : Found) (items others : Items) → ItemsStand s syntax room x items → (rest ≡ Sequence i → ItemsStand s syntax room i others)
+    → pick b (Sequence x) rest ≡ Sequence i → ItemsStand s syntax room i (pick b items others)
+items-or true s syntax room x i rest items others h on e = subst (λ (y : Inside). ItemsStand s syntax room y items) (same-inside e) h
+items-or false s syntax room x i rest items others h on e = on e
 
-no-items : (b : Bool) (s : List ℕ) (explicit : Bool) (room : ℕ) (x : Part) (i : Inside) (rest : Found) (others : Items) → (rest ≡ Sequence i → ItemsStand s explicit room i others)
-    → pick b (Value x) rest ≡ Sequence i → ItemsStand s explicit room i (pick b noItems others)
-no-items true s explicit room x i rest others on e = let z : _≡_ {A = ℕ} 0 1 = cc in absurd (omega arith)
-no-items false s explicit room x i rest others on e = on e
+no-items : (b : Bool) (s : List ℕ) (syntax : Syntax) (room : ℕ) (x : Part) (i : Inside) (rest : Found) (others : Items) → (rest ≡ Sequence i → ItemsStand s syntax room i others)
+    → pick b (Value x) rest ≡ Sequence i → ItemsStand s syntax room i (pick b noItems others)
+no-items true s syntax room x i rest others on e = let z : _≡_ {A = ℕ} 0 1 = cc in absurd (omega arith)
+no-items false s syntax room x i rest others on e = on e
 
 -- Where a sequence is found, its items are those that were written.
-pub items-meant : (elements : Elements) (s : List ℕ) (explicit : Bool) (room at floor tag : ℕ) (i : Inside) → Fit explicit room floor elements → Stands s at (written explicit elements)
-    → placeIn explicit at tag elements ≡ Sequence i → ItemsStand s explicit (room - 1) i (itemsUnder tag elements)
+pub items-meant : (elements : Elements) (s : List ℕ) (syntax : Syntax) (room at floor tag : ℕ) (i : Inside) → Fit syntax room floor elements → Stands s at (written syntax elements)
+    → placeIn syntax at tag elements ≡ Sequence i → ItemsStand s syntax (room - 1) i (itemsUnder tag elements)
 unfolding written element placeIn itemsUnder
-items-meant noElements s explicit room at floor tag i f e h = let z : _≡_ {A = ℕ} 0 1 = cc in absurd (omega arith)
-items-meant (value t vr bytes more) s explicit room at floor tag i f e h =
+items-meant noElements s syntax room at floor tag i f e h = let z : _≡_ {A = ℕ} 0 1 = cc in absurd (omega arith)
+items-meant (value t vr bytes more) s syntax room at floor tag i f e h =
     let held = padded vr bytes in
-    let rest = written explicit more in
-    no-items (eqb t tag) s explicit (room - 1) (record { from = at + headerSize explicit vr; stop = at + headerSize explicit vr + length held }) i
-    (placeIn explicit (at + headerSize explicit vr + length held) tag more) (itemsUnder tag more)
-    (items-meant more s explicit room (at + headerSize explicit vr + length held) (t + 1) tag i (f .2) (more-stands s explicit at t vr held rest e))
+    let rest = written syntax more in
+    no-items (eqb t tag) s syntax (room - 1) (record { from = at + headerSize syntax vr; stop = at + headerSize syntax vr + length held }) i
+    (placeIn syntax (at + headerSize syntax vr + length held) tag more) (itemsUnder tag more)
+    (items-meant more s syntax room (at + headerSize syntax vr + length held) (t + 1) tag i (f .2) (more-stands s syntax at t vr held rest e))
     h
-items-meant (sequence t items more) s explicit room at floor tag i f e h =
-    let held = writtenItems explicit items in
-    let rest = written explicit more in
-    items-or (eqb t tag) s explicit (room - 1) (span (at + headerSize explicit SQ) (length held)) i
-    (placeIn explicit (at + headerSize explicit SQ + length held) tag more) items (itemsUnder tag more)
-    (record { fit = f .3; stands = held-stands s explicit at t SQ held rest e; whole = refl })
-    (items-meant more s explicit room (at + headerSize explicit SQ + length held) (t + 1) tag i (f .4) (more-stands s explicit at t SQ held rest e))
+items-meant (sequence t items more) s syntax room at floor tag i f e h =
+    let held = writtenItems syntax items in
+    let rest = written syntax more in
+    items-or (eqb t tag) s syntax (room - 1) (span (at + headerSize syntax SQ) (length held)) i
+    (placeIn syntax (at + headerSize syntax SQ + length held) tag more) items (itemsUnder tag more)
+    (record { fit = f .3; stands = held-stands s syntax at t SQ held rest e; whole = refl })
+    (items-meant more s syntax room (at + headerSize syntax SQ + length held) (t + 1) tag i (f .4) (more-stands s syntax at t SQ held rest e))
     h

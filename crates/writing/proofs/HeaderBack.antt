@@ -13,6 +13,8 @@ use Rattle.choice.proofs.Picks.{first-kept}
 use Rattle.octets.specs.Octets.{octets, numberAt}
 use Rattle.octets.proofs.Laid.{Stands, stands-first, stands-second}
 use Rattle.octets.proofs.Numbers.{octets-length, number-back}
+use Rattle.headers.specs.declared.Syntax.{Syntax}
+use Rattle.headers.specs.declared.Syntax.the-variants.{Implicit, Explicit}
 use Rattle.headers.specs.declared.Head.the-variants.{Fault, Value, Nest}
 use Rattle.tags.specs.Table.{SQ, formOf, namedVr, undefined}
 use Rattle.headers.specs.Header.{tagAt, sizeAt, vrAt, lengthAt, vrWrong, content, lengthRules, lengthHead, elementRules, headAt, itemRules, itemHeadAt}
@@ -38,16 +40,21 @@ module _ (s : List ℕ) (at tag : ℕ) (small : tag < 4294967296) (e : Stands s 
       (omega arith)
 
 -- what the reader's parts of a header are, where one was written
-pub record Back (s : List ℕ) (explicit : Bool) (at tag vr size : ℕ) : Type 0 where
+pub record Back (s : List ℕ) (syntax : Syntax) (at tag vr size : ℕ) : Type 0 where
   pub group-is : numberAt 2 s at ≡ tag / 65536
   pub tag-is : tagAt s at ≡ tag
-  pub size-is : sizeAt s explicit at ≡ headerSize explicit vr
-  pub vr-is : vrAt s explicit at ≡ readVr explicit tag vr size
-  pub length-is : lengthAt s explicit at ≡ size
-  pub right : vrWrong s explicit at ≡ false
+  pub size-is : sizeAt s syntax at ≡ headerSize syntax vr
+  pub vr-is : vrAt s syntax at ≡ readVr syntax tag vr size
+  pub length-is : lengthAt s syntax at ≡ size
+  pub right : vrWrong s syntax at ≡ false
 
-implicit-back : (s : List ℕ) (at tag vr size : ℕ) → allowed tag vr ≡ true → size < limit false vr → Stands s at (header false tag vr size) → Back s false at tag vr size
-unfolding plain header headerSize sizeAt vrAt lengthAt vrWrong limit
+-- the reader's parts of a header, under one name
+unfoldable theParts : Unit {0}
+unfolding sizeAt vrAt lengthAt vrWrong
+theParts = tt
+
+implicit-back : (s : List ℕ) (at tag vr size : ℕ) → allowed tag vr ≡ true → size < limit Implicit vr → Stands s at (header Implicit tag vr size) → Back s Implicit at tag vr size
+unfolding theParts plain header headerSize limit
 implicit-back s at tag vr size a l e =
     let t = stands-first s at (tagOctets tag) (octets 4 size) e in
     let n = number-back 4 size s (at + 4) (omega arith) (behind s at 4 (at + 4) (tagOctets tag) (octets 4 size) (tag-length tag) refl e) in
@@ -60,7 +67,7 @@ implicit-back s at tag vr size a l e =
       right = refl;
     }
 
-module _ (s : List ℕ) (at tag vr size : ℕ) (a : allowed tag vr ≡ true) (l : size < limit true vr) (e : Stands s at (header true tag vr size)) where
+module _ (s : List ℕ) (at tag vr size : ℕ) (a : allowed tag vr ≡ true) (l : size < limit Explicit vr) (e : Stands s at (header Explicit tag vr size)) where
   tag-stands : Stands s at (tagOctets tag)
   unfolding header
   tag-stands = stands-first s at (tagOctets tag) (vrOctets vr size) e
@@ -77,11 +84,11 @@ module _ (s : List ℕ) (at tag vr size : ℕ) (a : allowed tag vr ≡ true) (l 
   unfolding vrOctets
   length-stands = behind s (at + 4) 2 (at + 6) (octets 2 vr) (pick (eqb (formOf vr) 12) (octets 2 0 ++ octets 4 size) (octets 2 size)) (octets-length 2 vr) (omega arith) vr-stands
 
-  explicit-back-by : (long : Bool) → eqb (formOf vr) 12 ≡ long → Back s true at tag vr size
-  unfolding headerSize sizeAt vrAt lengthAt vrWrong limit
+  explicit-back-by : (long : Bool) → eqb (formOf vr) 12 ≡ long → Back s Explicit at tag vr size
+  unfolding theParts headerSize limit
   explicit-back-by true f =
       let z = number-back 2 0 s (at + 6) (omega arith) (stands-first s (at + 6) (octets 2 0) (octets 4 size) (rw f at length-stands)) in
-      let b : size < 4294967296 = omega (arith, below-undefined true vr size l) in
+      let b : size < 4294967296 = omega (arith, below-undefined Explicit vr size l) in
       let n = number-back 4 size s (at + 8) b (behind s (at + 6) 2 (at + 8) (octets 2 0) (octets 4 size) (octets-length 2 0) (omega arith) (rw f at length-stands)) in
       record {
         group-is = group-back s at tag (four-bytes tag vr a) tag-stands;
@@ -103,9 +110,9 @@ module _ (s : List ℕ) (at tag vr size : ℕ) (a : allowed tag vr ≡ true) (l 
         right = rw (vr-back, known tag vr a, f, tag-back s at tag (four-bytes tag vr a) tag-stands) (own tag vr a);
       }
 
-pub header-back : (s : List ℕ) (explicit : Bool) (at tag vr size : ℕ) → allowed tag vr ≡ true → size < limit explicit vr → Stands s at (header explicit tag vr size) → Back s explicit at tag vr size
-header-back s true at tag vr size a l e = explicit-back-by s at tag vr size a l e (eqb (formOf vr) 12) refl
-header-back s false at tag vr size a l e = implicit-back s at tag vr size a l e
+pub header-back : (s : List ℕ) (syntax : Syntax) (at tag vr size : ℕ) → allowed tag vr ≡ true → size < limit syntax vr → Stands s at (header syntax tag vr size) → Back s syntax at tag vr size
+header-back s Explicit at tag vr size a l e = explicit-back-by s at tag vr size a l e (eqb (formOf vr) 12) refl
+header-back s Implicit at tag vr size a l e = implicit-back s at tag vr size a l e
 
 -- a defined, even length within the enclosing end earns no refusal
 length-taken : (from end vr size : ℕ) → size < 0xFFFF_FFFF → size % 2 ≡ 0 → from + size ≤ end
@@ -117,25 +124,25 @@ length-taken from end vr size d v r =
     (rw u, (rw (u, v), (rw (u, le-ltb (end - from) size (omega arith)), tt)))
     ∙ rw u
 
-module _ (s : List ℕ) (explicit : Bool) (end at floor tag vr size : ℕ) (f : HeaderFits explicit floor tag vr size) (v : size % 2 ≡ 0) (r : at + headerSize explicit vr + size ≤ end) (e : Stands s at (header explicit tag vr size)) where
-  head-taken : headAt s explicit end at floor
-      ≡ pick (eqb (readVr explicit tag vr size) SQ) (Nest (span (at + headerSize explicit vr) size)) (Value (record { from = at + headerSize explicit vr; stop = at + headerSize explicit vr + size }))
+module _ (s : List ℕ) (syntax : Syntax) (end at floor tag vr size : ℕ) (f : HeaderFits syntax floor tag vr size) (v : size % 2 ≡ 0) (r : at + headerSize syntax vr + size ≤ end) (e : Stands s at (header syntax tag vr size)) where
+  head-taken : headAt s syntax end at floor
+      ≡ pick (eqb (readVr syntax tag vr size) SQ) (Nest (span (at + headerSize syntax vr) size)) (Value (record { from = at + headerSize syntax vr; stop = at + headerSize syntax vr + size }))
   unfolding headAt
   head-taken =
-      let b = header-back s explicit at tag vr size (f .1) (f .2) e in
-      first-kept Fault (elementRules s explicit end at floor) (lengthHead (at + sizeAt s explicit at) end (vrAt s explicit at) (lengthAt s explicit at))
-      (rw (b .size-is) (le-ltb (end - at) (headerSize explicit vr) (omega arith)), (rw (b .group-is) (not-FFFE tag vr (f .1)), (rw (b .tag-is) (le-ltb tag floor (f .0)), (b .right, tt))))
+      let b = header-back s syntax at tag vr size (f .1) (f .2) e in
+      first-kept Fault (elementRules s syntax end at floor) (lengthHead (at + sizeAt s syntax at) end (vrAt s syntax at) (lengthAt s syntax at))
+      (rw (b .size-is) (le-ltb (end - at) (headerSize syntax vr) (omega arith)), (rw (b .group-is) (not-FFFE tag vr (f .1)), (rw (b .tag-is) (le-ltb tag floor (f .0)), (b .right, tt))))
       ∙ rw (b .size-is, b .vr-is, b .length-is)
-      (length-taken (at + headerSize explicit vr) end (readVr explicit tag vr size) size (below-undefined explicit vr size (f .2)) v r)
+      (length-taken (at + headerSize syntax vr) end (readVr syntax tag vr size) size (below-undefined syntax vr size (f .2)) v r)
 
   -- where the header of a value was written, the reader finds the value behind it
-  pub value-head : eqb vr SQ ≡ false → headAt s explicit end at floor ≡ Value (record { from = at + headerSize explicit vr; stop = at + headerSize explicit vr + size })
-  value-head q = head-taken ∙ rw (value-vr explicit tag vr size (f .1) q (below-undefined explicit vr size (f .2)))
+  pub value-head : eqb vr SQ ≡ false → headAt s syntax end at floor ≡ Value (record { from = at + headerSize syntax vr; stop = at + headerSize syntax vr + size })
+  value-head q = head-taken ∙ rw (value-vr syntax tag vr size (f .1) q (below-undefined syntax vr size (f .2)))
 
 -- where the header of a sequence was written, the reader finds its items behind it
-pub sequence-head : (s : List ℕ) (explicit : Bool) (end at floor tag size : ℕ) → HeaderFits explicit floor tag SQ size → size % 2 ≡ 0 → at + headerSize explicit SQ + size ≤ end
-    → Stands s at (header explicit tag SQ size) → namedVr tag ≡ SQ → headAt s explicit end at floor ≡ Nest (span (at + headerSize explicit SQ) size)
-sequence-head s explicit end at floor tag size f v r e q = head-taken s explicit end at floor tag SQ size f v r e ∙ rw (sequence-vr explicit tag size q)
+pub sequence-head : (s : List ℕ) (syntax : Syntax) (end at floor tag size : ℕ) → HeaderFits syntax floor tag SQ size → size % 2 ≡ 0 → at + headerSize syntax SQ + size ≤ end
+    → Stands s at (header syntax tag SQ size) → namedVr tag ≡ SQ → headAt s syntax end at floor ≡ Nest (span (at + headerSize syntax SQ) size)
+sequence-head s syntax end at floor tag size f v r e q = head-taken s syntax end at floor tag SQ size f v r e ∙ rw (sequence-vr syntax tag size q)
 
 -- where the header of an item was written, the reader finds its list behind it
 pub item-head-back : (s : List ℕ) (end at size : ℕ) → size < 0xFFFF_FFFF → size % 2 ≡ 0 → at + 8 + size ≤ end → Stands s at (itemHeader size) → itemHeadAt s end at ≡ Nest (span (at + 8) size)

@@ -13,6 +13,9 @@ use Rattle.choice.specs.Pick.{pick, both}
 use Rattle.octets.specs.Octets.{octets}
 use Rattle.octets.proofs.Numbers.{octets-length}
 use Rattle.tags.specs.Table.{SQ, formOf}
+use Rattle.headers.specs.declared.Syntax.{Syntax}
+use Rattle.headers.specs.declared.Syntax.the-variants.{Implicit, Explicit}
+use Rattle.headers.specs.Header.{isExplicit}
 use Rattle.writing.specs.Bytes.{padded, tagOctets, vrOctets, headerSize, plain, header, itemHeader, headed, element, written, writtenItems}
 use Rattle.writing.specs.Tree.{Elements, value, sequence, Items, item}
 
@@ -41,27 +44,27 @@ pub plain-length : (tag size : ℕ) → length (plain tag size) ≡ 8
 unfolding plain
 plain-length tag size = simp (length-append, tag-length, octets-length)
 
-pub explicit-length : (tag vr size : ℕ) → length (header true tag vr size) ≡ 4 + length (vrOctets vr size)
+pub explicit-length : (tag vr size : ℕ) → length (header Explicit tag vr size) ≡ 4 + length (vrOctets vr size)
 unfolding header
 explicit-length tag vr size = simp (length-append, tag-length)
 
-header-length-by : (long : Bool) (tag vr size : ℕ) → length (vrOctets vr size) ≡ pick long 8 4 → length (header true tag vr size) ≡ pick long 12 8
+header-length-by : (long : Bool) (tag vr size : ℕ) → length (vrOctets vr size) ≡ pick long 8 4 → length (header Explicit tag vr size) ≡ pick long 12 8
 header-length-by true tag vr size e = explicit-length tag vr size ∙ rw e
 header-length-by false tag vr size e = explicit-length tag vr size ∙ rw e
 
-pub header-length : (explicit : Bool) (tag vr size : ℕ) → length (header explicit tag vr size) ≡ headerSize explicit vr
+pub header-length : (syntax : Syntax) (tag vr size : ℕ) → length (header syntax tag vr size) ≡ headerSize syntax vr
 unfolding header headerSize
-header-length true tag vr size = header-length-by (eqb (formOf vr) 12) tag vr size (vr-length vr size)
-header-length false tag vr size = plain-length tag size
+header-length Explicit tag vr size = header-length-by (eqb (formOf vr) 12) tag vr size (vr-length vr size)
+header-length Implicit tag vr size = plain-length tag size
 
 -- a header has eight or twelve bytes
 size-by : (b : Bool) → (8 ≤ pick b 12 8) × (pick b 12 8 ≤ 12)
 size-by true = (omega arith, omega arith)
 size-by false = (omega arith, omega arith)
 
-pub size-between : (explicit : Bool) (vr : ℕ) → (8 ≤ headerSize explicit vr) × (headerSize explicit vr ≤ 12)
+pub size-between : (syntax : Syntax) (vr : ℕ) → (8 ≤ headerSize syntax vr) × (headerSize syntax vr ≤ 12)
 unfolding headerSize
-size-between explicit vr = size-by (both explicit (eqb (formOf vr) 12))
+size-between syntax vr = size-by (both (isExplicit syntax) (eqb (formOf vr) 12))
 
 pub item-length : (size : ℕ) → length (itemHeader size) ≡ 8
 item-length size = plain-length 0xFFFE_E000 size
@@ -73,28 +76,28 @@ padded-length vr bytes = simp (length-append, octets-length)
 pub padded-even : (vr : ℕ) (bytes : List ℕ) → length (padded vr bytes) % 2 ≡ 0
 padded-even vr bytes = omega (arith, padded-length vr bytes)
 
-pub headed-length : (explicit : Bool) (tag vr : ℕ) (held : List ℕ) → length (headed explicit tag vr held) ≡ headerSize explicit vr + length held
-headed-length explicit tag vr held = simp (length-append, header-length)
+pub headed-length : (syntax : Syntax) (tag vr : ℕ) (held : List ℕ) → length (headed syntax tag vr held) ≡ headerSize syntax vr + length held
+headed-length syntax tag vr held = simp (length-append, header-length)
 
-pub element-length : (explicit : Bool) (tag vr : ℕ) (bytes : List ℕ) → length (element explicit tag vr bytes) ≡ headerSize explicit vr + (length bytes + length bytes % 2)
+pub element-length : (syntax : Syntax) (tag vr : ℕ) (bytes : List ℕ) → length (element syntax tag vr bytes) ≡ headerSize syntax vr + (length bytes + length bytes % 2)
 unfolding element
-element-length explicit tag vr bytes = headed-length explicit tag vr (padded vr bytes) ∙ ap (λ (n : ℕ). headerSize explicit vr + n) (padded-length vr bytes)
+element-length syntax tag vr bytes = headed-length syntax tag vr (padded vr bytes) ∙ ap (λ (n : ℕ). headerSize syntax vr + n) (padded-length vr bytes)
 
 -- the value is a number of an even number of bytes
-pub number-length : (explicit : Bool) (tag vr width x : ℕ) → width % 2 ≡ 0 → length (element explicit tag vr (octets width x)) ≡ headerSize explicit vr + width
-number-length explicit tag vr width x e = element-length explicit tag vr (octets width x) ∙ rw (octets-length width x, e) (omega arith)
+pub number-length : (syntax : Syntax) (tag vr width x : ℕ) → width % 2 ≡ 0 → length (element syntax tag vr (octets width x)) ≡ headerSize syntax vr + width
+number-length syntax tag vr width x e = element-length syntax tag vr (octets width x) ∙ rw (octets-length width x, e) (omega arith)
 
 -- a tree's length, node by node
-module _ (explicit : Bool) (tag : ℕ) (more : Elements) where
-  pub value-length : (vr : ℕ) (bytes : List ℕ) → length (written explicit (value tag vr bytes more)) ≡ headerSize explicit vr + (length bytes + length bytes % 2) + length (written explicit more)
+module _ (syntax : Syntax) (tag : ℕ) (more : Elements) where
+  pub value-length : (vr : ℕ) (bytes : List ℕ) → length (written syntax (value tag vr bytes more)) ≡ headerSize syntax vr + (length bytes + length bytes % 2) + length (written syntax more)
   unfolding written
-  value-length vr bytes = rw (length-append (element explicit tag vr bytes) (written explicit more), element-length explicit tag vr bytes)
+  value-length vr bytes = rw (length-append (element syntax tag vr bytes) (written syntax more), element-length syntax tag vr bytes)
 
-  pub sequence-length : (items : Items) → length (written explicit (sequence tag items more)) ≡ headerSize explicit SQ + length (writtenItems explicit items) + length (written explicit more)
+  pub sequence-length : (items : Items) → length (written syntax (sequence tag items more)) ≡ headerSize syntax SQ + length (writtenItems syntax items) + length (written syntax more)
   unfolding written
-  sequence-length items = rw (length-append (headed explicit tag SQ (writtenItems explicit items)) (written explicit more), headed-length explicit tag SQ (writtenItems explicit items))
+  sequence-length items = rw (length-append (headed syntax tag SQ (writtenItems syntax items)) (written syntax more), headed-length syntax tag SQ (writtenItems syntax items))
 
-pub items-length : (explicit : Bool) (list : Elements) (more : Items) → length (writtenItems explicit (item list more)) ≡ 8 + length (written explicit list) + length (writtenItems explicit more)
+pub items-length : (syntax : Syntax) (list : Elements) (more : Items) → length (writtenItems syntax (item list more)) ≡ 8 + length (written syntax list) + length (writtenItems syntax more)
 unfolding written
-items-length explicit list more =
-    rw (length-append (itemHeader (length (written explicit list)) ++ written explicit list) (writtenItems explicit more), length-append (itemHeader (length (written explicit list))) (written explicit list), item-length (length (written explicit list)))
+items-length syntax list more =
+    rw (length-append (itemHeader (length (written syntax list)) ++ written syntax list) (writtenItems syntax more), length-append (itemHeader (length (written syntax list))) (written syntax list), item-length (length (written syntax list)))

@@ -6,6 +6,8 @@ use lib.Dec.{ltb, eqb}
 use lib.ListN.{length}
 use Rattle.choice.specs.Pick.{pick, both, not}
 use Rattle.tags.specs.Table.{SQ, formOf, namedVr, differs}
+use Rattle.headers.specs.declared.Syntax.{Syntax}
+use Rattle.headers.specs.Header.{isExplicit}
 use Rattle.writing.specs.Tree.{Elements, noElements, value, sequence, Items, noItems, item}
 use Rattle.writing.specs.Bytes.{padded, written, writtenItems}
 
@@ -17,27 +19,27 @@ allowed tag vr =
     (both (not (eqb (formOf vr) 0)) (not (differs tag vr))))
 
 -- lengths are below this: 16 bits behind a short-form VR, else 32 without the undefined length
-unfoldable pub limit : Bool → ℕ → ℕ
-limit explicit vr = pick (both explicit (not (eqb (formOf vr) 12))) 65536 0xFFFF_FFFF
+unfoldable pub limit : Syntax → ℕ → ℕ
+limit syntax vr = pick (both (isExplicit syntax) (not (eqb (formOf vr) 12))) 65536 0xFFFF_FFFF
 
 -- an element's header in a list where its tag must not be below `floor`
-abbrev pub HeaderFits : Bool → ℕ → ℕ → ℕ → ℕ → Type 0
-HeaderFits explicit floor tag vr size = (floor ≤ tag) × (allowed tag vr ≡ true) × (size < limit explicit vr)
+abbrev pub HeaderFits : Syntax → ℕ → ℕ → ℕ → ℕ → Type 0
+HeaderFits syntax floor tag vr size = (floor ≤ tag) × (allowed tag vr ≡ true) × (size < limit syntax vr)
 
 -- tags ascend, and there is room for so many sequences within one another
 abbrev mutual
-  pub Fit : Bool → ℕ → ℕ → Elements → Type 0
-  Fit explicit room floor noElements = Unit {0}
-  Fit explicit room floor (value tag vr bytes more) =
-      HeaderFits explicit floor tag vr (length (padded vr bytes)) × (eqb vr SQ ≡ false) × Fit explicit room (tag + 1) more
-  Fit explicit room floor (sequence tag items more) =
-      HeaderFits explicit floor tag SQ (length (writtenItems explicit items))
+  pub Fit : Syntax → ℕ → ℕ → Elements → Type 0
+  Fit syntax room floor noElements = Unit {0}
+  Fit syntax room floor (value tag vr bytes more) =
+      HeaderFits syntax floor tag vr (length (padded vr bytes)) × (eqb vr SQ ≡ false) × Fit syntax room (tag + 1) more
+  Fit syntax room floor (sequence tag items more) =
+      HeaderFits syntax floor tag SQ (length (writtenItems syntax items))
       × (namedVr tag ≡ SQ)
       × (0 < room)
-      × FitItems explicit (room - 1) items
-      × Fit explicit room (tag + 1) more
+      × FitItems syntax (room - 1) items
+      × Fit syntax room (tag + 1) more
 
-  pub FitItems : Bool → ℕ → Items → Type 0
-  FitItems explicit room noItems = Unit {0}
-  FitItems explicit room (item list more) =
-      (length (written explicit list) < 0xFFFF_FFFF) × Fit explicit room 0 list × FitItems explicit room more
+  pub FitItems : Syntax → ℕ → Items → Type 0
+  FitItems syntax room noItems = Unit {0}
+  FitItems syntax room (item list more) =
+      (length (written syntax list) < 0xFFFF_FFFF) × Fit syntax room 0 list × FitItems syntax room more

@@ -1,11 +1,12 @@
 -- Elements (PS3.5): where the reader is to find what was written from a place on, and what it is.
 use Prim.Native.Nat.{ℕ, suc, _+_}
-use mathlib.Core.Bool.{Bool, false}
+use mathlib.Core.Bool.{false}
 use mathlib.Core.List.{List, []}
 use lib.Dec.{eqb}
 use lib.ListN.{length}
 use Rattle.choice.specs.Pick.{pick}
 use Rattle.tags.specs.Table.{SQ}
+use Rattle.headers.specs.declared.Syntax.{Syntax}
 use Rattle.headers.specs.declared.Inside.{Inside}
 use Rattle.elements.specs.declared.Found.{Found}
 use Rattle.elements.specs.declared.Found.the-variants.{Missing, Value, Sequence}
@@ -19,16 +20,16 @@ abbrev pub span : ℕ → ℕ → Inside
 span from size = record { from = from; stop = from + size; loose = false }
 
 -- where what was written under a tag stands
-unfoldable pub placeIn : Bool → ℕ → ℕ → Elements → Found
-placeIn explicit at tag noElements = Missing
-placeIn explicit at tag (value t vr bytes more) =
+unfoldable pub placeIn : Syntax → ℕ → ℕ → Elements → Found
+placeIn syntax at tag noElements = Missing
+placeIn syntax at tag (value t vr bytes more) =
     pick (eqb t tag)
-    (Value (record { from = at + headerSize explicit vr; stop = at + headerSize explicit vr + length (padded vr bytes) }))
-    (placeIn explicit (at + headerSize explicit vr + length (padded vr bytes)) tag more)
-placeIn explicit at tag (sequence t items more) =
+    (Value (record { from = at + headerSize syntax vr; stop = at + headerSize syntax vr + length (padded vr bytes) }))
+    (placeIn syntax (at + headerSize syntax vr + length (padded vr bytes)) tag more)
+placeIn syntax at tag (sequence t items more) =
     pick (eqb t tag)
-    (Sequence (span (at + headerSize explicit SQ) (length (writtenItems explicit items))))
-    (placeIn explicit (at + headerSize explicit SQ + length (writtenItems explicit items)) tag more)
+    (Sequence (span (at + headerSize syntax SQ) (length (writtenItems syntax items))))
+    (placeIn syntax (at + headerSize syntax SQ + length (writtenItems syntax items)) tag more)
 
 -- the value that was written under a tag, or nothing
 unfoldable pub valueUnder : ℕ → Elements → List ℕ
@@ -47,7 +48,7 @@ count noItems = 0
 count (item list more) = suc (count more)
 
 -- what the reader is to say of items: none, where the list of the only one stands, or how many
-abbrev pub told : Bool → ℕ → Items → read.Items
-told explicit at noItems = Empty
-told explicit at (item list noItems) = One (span (at + 8) (length (written explicit list)))
-told explicit at (item list (item next more)) = Several (suc (suc (count more)))
+abbrev pub told : Syntax → ℕ → Items → read.Items
+told syntax at noItems = Empty
+told syntax at (item list noItems) = One (span (at + 8) (length (written syntax list)))
+told syntax at (item list (item next more)) = Several (suc (suc (count more)))

@@ -1,10 +1,11 @@
 use mathlib.Core.Path.{refl, ap, _∙_}
-use Rattle.rules.specs.Records.{named}
+use Rattle.rules.specs.declared.Operation.the-variants.{Act}
+use Rattle.rules.specs.declared.Request.{Request}
+use Rattle.rules.specs.Records.{sentName, named}
 use Rattle.rules.specs.Commands.{uidAt}
 use Rattle.rules.specs.Checks.{targetRules, actionPlan, planOf}
 use Rattle.verdicts.proofs.Plans.{broken-decides, kept-decides}
 use Rattle.acting.specs.Acting.{actionRules}
-use Rattle.acting.proofs.Laws.{same-decides}
 use borrow.Author.Needs.{needs}
 use Rattle.acting.proofs.acted.Statement.{statement}
 use Rattle.acting.proofs.acted.Tie as tie
@@ -12,15 +13,24 @@ use Rattle.acting.proofs.acted.Tie as tie
 returns : tie.Need-returns
 unfolding planOf targetRules
 returns c =
-    let a = c .before .before .before .before .args in
-    broken-decides (a .c .now) _ (actionRules (a .k) (a .c .now) (a .action)) (actionPlan (a .k) (named (a .k) (uidAt (a .c .now) (a .action .instance))) (uidAt (a .c .now) (a .action .instance))) refl _ (c .before .before .action-broken .ensures) (a .k) (c .failed .result) (c .failed .ensures) (c .before .if1 .taken)
+    let o : tie.Start = search in
+    let a = o .args in
+    let request : Request = record { message = a .message; operation = Act (a .action) } in
+    let uid = uidAt (a .c .now) (a .action .instance) in
+    broken-decides (a .k) (a .c .now) request (actionRules (a .k) (a .c .now) (a .action)) (actionPlan (a .k) (named (a .k) uid) (sentName uid)) refl _ (c .before .before .action-broken .ensures) _ (c .before .if1 .taken) (c .failed .ensures)
 
 returns-2 : tie.Need-returns-2
 unfolding planOf targetRules
 returns-2 c =
-    let a = c .before .before .before .before .before .before .before .args in
-    kept-decides (a .c .now) _ (actionRules (a .k) (a .c .now) (a .action)) (actionPlan (a .k) (named (a .k) (uidAt (a .c .now) (a .action .instance))) (uidAt (a .c .now) (a .action .instance))) refl _ (c .before .before .before .before .before .action-broken .ensures) (a .k) (c .printed .result) (c .before .before .before .before .if1 .left)
-    (same-decides (a .k) (a .c .now) _ (c .printed .result) (λ x. actionPlan (a .k) x (uidAt (a .c .now) (a .action .instance))) _ _ (c .before .named .ensures .0 ∙ ap (named (a .k)) (c .before .before .uid-at .ensures)) (c .printed .ensures))
+    let broken : tie.After-action-broken = search in
+    let kept : tie.Else1 = search in
+    let whom : tie.After-named = search in
+    let o : tie.Start = search in
+    let a = o .args in
+    let request : Request = record { message = a .message; operation = Act (a .action) } in
+    let uid = uidAt (a .c .now) (a .action .instance) in
+    kept-decides (a .k) (a .c .now) request (actionRules (a .k) (a .c .now) (a .action)) (actionPlan (a .k) (named (a .k) uid) (sentName uid)) refl _ (broken .action-broken .ensures) _ (kept .if1 .left)
+    (c .printed .ensures ∙ rw (whom .named .ensures .0 ∙ ap (named (a .k)) (whom .before .uid-at .ensures), c .before .name-at .ensures))
 
 pub acted-spec : {M : Type 1} → statement M
 acted-spec =
@@ -29,6 +39,7 @@ acted-spec =
     (λ c κs. search needs)
     (λ c κs. search needs)
     returns
+    (λ c κs. search needs)
     (λ c κs. search needs)
     (λ c κs. search needs)
     (λ c κs. search needs)

@@ -12,7 +12,7 @@ use Rattle.attributes.proofs.copies_severity.Tie as tie
 returns : tie.Need-returns
 returns c =
     let a = c .before .before .before .before .before .before .args in
-    let l = listingOf (a .d .now) (a .explicit) in
+    let l = listingOf (a .d .now) (a .syntax) in
     let at = c .before .before .before .before .look .ensures in
     optional-told blank (λ v. not (eqb (countIn 99 v) 0)) l (look l 0x2000_0010) (at .0) (at .1) (c .before .before .before .value .ensures) (c .before .before .is-blank .ensures) (nots (eqb (c .before .count-in .result) 0) ∙ ap (λ n. not (eqb n 0)) (c .before .count-in .ensures .0)) (c .optional-severity .ensures)
 

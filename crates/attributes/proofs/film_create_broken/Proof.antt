@@ -9,7 +9,7 @@ unfolding filmCreateStandings
 returns c =
     let first = c .before .before .before .before .before in
     let a = first .before .before .args in
-    broken-told (filmCreateStandings (a .k) (listingOf (a .d .now) (a .explicit)))
+    broken-told (filmCreateStandings (a .k) (listingOf (a .d .now) (a .syntax)))
     (worst-next _ _ (c .before .before .format-severity .ensures)
     (worst-both _ _ (c .before .before .before .before .reference-severity .ensures) (first .optional-film .ensures) (c .before .before .before .worse .ensures))
     (c .before .worse2 .ensures))

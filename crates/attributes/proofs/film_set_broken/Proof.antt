@@ -9,7 +9,7 @@ unfolding filmSetStandings
 returns c =
     let first = c .before .before .before .before .before in
     let a = first .before .before .args in
-    broken-told (filmSetStandings (listingOf (a .d .now) (a .explicit)))
+    broken-told (filmSetStandings (listingOf (a .d .now) (a .syntax)))
     (worst-next _ _ (c .before .before .presence-severity2 .ensures)
     (worst-next _ _ (c .before .before .before .before .presence-severity .ensures) (first .optional-film .ensures) (c .before .before .before .worse .ensures))
     (c .before .worse2 .ensures))

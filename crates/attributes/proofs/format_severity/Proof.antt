@@ -13,8 +13,9 @@ use Rattle.attributes.proofs.format_severity.Tie as tie
 
 returns : tie.Need-returns
 returns c =
-    let a = c .before .before .before .before .before .before .before .args in
-    let l = listingOf (a .d .now) (a .explicit) in
+    let start : tie.Start = search in
+    let a = start .args in
+    let l = listingOf (a .d .now) (a .syntax) in
     let at = c .before .before .before .before .before .look .ensures in
     let layout = c .before .before .before .layout-in in
     mandatory-told blank (λ v. not (eqb (length (countsIn v)) 0)) l (look l 0x2010_0010) (at .0) (at .1) (c .before .before .before .before .value .ensures) (c .before .before .is-blank .ensures)

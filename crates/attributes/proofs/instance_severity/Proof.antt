@@ -4,7 +4,7 @@ use Rattle.octets.specs.Octets.{same}
 use Rattle.uids.specs.Uids.{isUid, unpadded}
 use Rattle.rules.specs.Records.{uidOf, isLive}
 use Rattle.rules.specs.Values.{noBytes}
-use Rattle.rules.specs.Attributes.{listingOf, look, onlyItem}
+use Rattle.rules.specs.Attributes.{listing, look}
 use Rattle.attributes.proofs.Laws.{mandatory-told}
 use borrow.Author.Needs.{needs}
 use Rattle.attributes.proofs.instance_severity.Statement.{statement}
@@ -13,7 +13,7 @@ use Rattle.attributes.proofs.instance_severity.Tie as tie
 returns : tie.Need-returns
 returns c =
     let a = c .before .before .before .before .before .before .args in
-    let l = onlyItem (listingOf (a .d .now) (a .explicit)) (a .inside) in
+    let l = listing (a .d .now) (a .scope) in
     let at = c .before .before .before .before .look .ensures in
     mandatory-told noBytes (λ v. both (isUid (unpadded v)) (both (isLive (a .s)) (same (unpadded v) (uidOf (a .n) (a .s .name))))) l (look l 0x0008_1155) (at .0) (at .1) (c .before .before .before .value .ensures) refl
     (c .before .is-session .ensures ∙ ap (λ u. both (isUid u) (both (isLive (a .s)) (same u (uidOf (a .n) (a .s .name))))) (c .before .before .unpadded .ensures))

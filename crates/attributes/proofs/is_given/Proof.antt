@@ -8,7 +8,7 @@ use Rattle.attributes.proofs.is_given.Tie as tie
 returns : tie.Need-returns
 returns c =
     let a = c .before .before .before .before .before .args in
-    let l = listingOf (a .d .now) (a .explicit) in
+    let l = listingOf (a .d .now) (a .syntax) in
     let at = c .before .before .before .look .ensures in
     given-told blank l (look l (a .tag)) (at .0) (at .1) (c .before .before .value .ensures) (c .before .is-blank .ensures) (c .is-given .ensures)
 

@@ -16,12 +16,12 @@ returns c =
     let test = text .before .before .before in
     let start = test .before .before .before in
     let a = start .args in
-    given-read blank (listingOf (a .d .now) (a .explicit)) 0x2000_0050 (λ v. filledTo 64 0 (trimmed v)) (a .kept) (test .before .is-given .ensures) (test .if1 .taken) (text .before .value-of .ensures)
+    given-read blank (listingOf (a .d .now) (a .syntax)) 0x2000_0050 (λ v. filledTo 64 0 (trimmed v)) (a .kept) (test .before .is-given .ensures) (test .if1 .taken) (text .before .value-of .ensures)
     (label-laid (text .before .value-of .ensures) (text .trimmed .ensures) (start .pre) (c .before .put .ensures))
 
 returns-2 : tie.Need-returns-2
 returns-2 c = let a = c .before .before .before .args in
-    not-given blank (listingOf (a .d .now) (a .explicit)) 0x2000_0050 (λ v. filledTo 64 0 (trimmed v)) (a .kept) (c .before .is-given .ensures) (c .if1 .left)
+    not-given blank (listingOf (a .d .now) (a .syntax)) 0x2000_0050 (λ v. filledTo 64 0 (trimmed v)) (a .kept) (c .before .is-given .ensures) (c .if1 .left)
 
 pub label-or-spec : {M : Type 1} → statement M
 label-or-spec =

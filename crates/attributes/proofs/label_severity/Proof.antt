@@ -8,7 +8,7 @@ use Rattle.attributes.proofs.label_severity.Tie as tie
 returns : tie.Need-returns
 returns c =
     let a = c .before .before .before .before .before .before .args in
-    let l = listingOf (a .d .now) (a .explicit) in
+    let l = listingOf (a .d .now) (a .syntax) in
     let at = c .before .before .before .before .look .ensures in
     optional-told blank (labelAllowed) l (look l 0x2000_0050) (at .0) (at .1) (c .before .before .before .value .ensures) (c .before .before .is-blank .ensures) (c .before .label-allowed .ensures) (c .optional-severity .ensures)
 

@@ -6,12 +6,12 @@ use Rattle.attributes.proofs.presence_severity.Tie as tie
 
 returns : tie.Need-returns
 returns c = let a = c .before .before .before .before .args in
-    let l = listingOf (a .d .now) (a .explicit) in
+    let l = listingOf (a .d .now) (a .syntax) in
     absent-fine (look l (a .tag)) (c .before .before .look .ensures .0) (c .if1 .taken)
 
 returns-2 : tie.Need-returns-2
 returns-2 c = let a = c .before .before .before .before .args in
-    let l = listingOf (a .d .now) (a .explicit) in
+    let l = listingOf (a .d .now) (a .syntax) in
     absent-wrong (look l (a .tag)) (c .before .before .look .ensures .0) (c .if1 .left)
 
 pub presence-severity-spec : {M : Type 1} → statement M

@@ -1,6 +1,7 @@
 use Prim.Native.Nat.{_+_}
 use mathlib.Core.Path.{sym, ap, subst, _∙_}
 use native.Mathlib.Omega.{arith}
+use Rattle.elements.specs.Reader.{scopeOf}
 use Rattle.elements.proofs.Within.{ItemsIn}
 use Rattle.elements.proofs.Laws.{items-within}
 use Rattle.rules.specs.Attributes.{empty, wrong, listingOf, referenceStandings}
@@ -14,20 +15,20 @@ item-severity-requires : tie.Need-item-severity-requires
 item-severity-requires c κs =
     let start = c .before .before .before .before .before in
     let a = start .args in
-    let g = subst (ItemsIn (a .inside .from + 8) (a .inside .stop)) (sym (c .before .before .before .items-in .ensures) ∙ c .before .item .given .1) (items-within (a .d .now) (a .explicit) 3 (a .inside) (start .pre .0)) in
+    let g = subst (ItemsIn (a .inside .from + 8) (a .inside .stop)) (sym (c .before .before .before .items-in .ensures) ∙ c .before .item .given .1) (items-within (a .d .now) (scopeOf (a .syntax) 3 (a .inside)) (start .pre .0)) in
     (g .1 .0, omega (arith, g .1 .1, start .pre .1))
 
 returns : tie.Need-returns
 returns c = let a = c .before .before .before .before .args in
-    sym (worst-one empty) ∙ ap (λ i. worst (referenceStandings (a .k) (listingOf (a .d .now) (a .explicit)) i)) (sym (sym (c .before .before .items-in .ensures) ∙ c .enum-told .given .1))
+    sym (worst-one empty) ∙ ap (λ i. worst (referenceStandings (a .k) (listingOf (a .d .now) (a .syntax)) i)) (sym (sym (c .before .before .items-in .ensures) ∙ c .enum-told .given .1))
 
 returns-2 : tie.Need-returns-2
 returns-2 c = let a = c .before .before .before .before .before .before .args in
-    c .item-severity .ensures ∙ ap (λ i. worst (referenceStandings (a .k) (listingOf (a .d .now) (a .explicit)) i)) (sym (sym (c .before .before .before .before .items-in .ensures) ∙ c .before .before .item .given .1))
+    c .item-severity .ensures ∙ ap (λ i. worst (referenceStandings (a .k) (listingOf (a .d .now) (a .syntax)) i)) (sym (sym (c .before .before .before .before .items-in .ensures) ∙ c .before .before .item .given .1))
 
 returns-3 : tie.Need-returns-3
 returns-3 c = let a = c .before .before .before .before .args in
-    sym (worst-one wrong) ∙ ap (λ i. worst (referenceStandings (a .k) (listingOf (a .d .now) (a .explicit)) i)) (sym (sym (c .before .before .items-in .ensures) ∙ c .enum-told2 .given .1))
+    sym (worst-one wrong) ∙ ap (λ i. worst (referenceStandings (a .k) (listingOf (a .d .now) (a .syntax)) i)) (sym (sym (c .before .before .items-in .ensures) ∙ c .enum-told2 .given .1))
 
 pub sequence-severity-spec : {M : Type 1} → statement M
 sequence-severity-spec =

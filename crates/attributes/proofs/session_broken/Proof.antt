@@ -11,7 +11,7 @@ returns c =
     let medium = c .before .before .before .before .before in
     let label = medium .before .before .before .before in
     let a = label .before .before .args in
-    broken-told (sessionStandings (listingOf (a .d .now) (a .explicit)))
+    broken-told (sessionStandings (listingOf (a .d .now) (a .syntax)))
     (worst-next _ _ (c .before .before .copies-severity .ensures)
     (worst-next _ _ (c .before .before .before .before .priority-severity .ensures)
     (worst-next _ _ (medium .before .medium-severity .ensures)

@@ -5,12 +5,14 @@ use Rattle.attributes.proofs.session_with.Statement.{statement}
 use Rattle.attributes.proofs.session_with.Tie as tie
 
 label-length-or-requires : tie.Need-label-length-or-requires
-label-length-or-requires c κs = let start = c .before .before .before .before .before .before .before in
-    label-bound (listingOf (start .args .d .now) (start .args .explicit)) (start .pre)
+label-length-or-requires c κs =
+    let start : tie.Start = search in
+    label-bound (listingOf (start .args .d .now) (start .args .syntax)) (start .pre)
 
 label-or-requires : tie.Need-label-or-requires
-label-or-requires c κs = let start = c .before .before .before .before .before .before .before .before in
-    label-bound (listingOf (start .args .d .now) (start .args .explicit)) (start .pre)
+label-or-requires c κs =
+    let start : tie.Start = search in
+    label-bound (listingOf (start .args .d .now) (start .args .syntax)) (start .pre)
 
 returns : tie.Need-returns
 unfolding sessionWith

@@ -7,8 +7,10 @@ use Rattle.boxes.proofs.box_broken.Tie as tie
 
 returns : tie.Need-returns
 returns c =
+    let o : tie.Start = search in
+    let a = o .args in
     c .status-of .ensures
-    ∙ rw (c .before .worse2 .ensures, c .before .before .worse .ensures, c .before .before .before .sequence-worst .ensures, c .before .before .before .before .before .before .before .pre .0, c .before .before .before .before .polarity-severity .ensures, c .before .before .before .before .before .position-severity .ensures) (box-status (c .before .before .before .before .before .before .before .args .boxes) (listingOf (c .before .before .before .before .before .before .before .args .d .now) (c .before .before .before .before .before .before .before .args .explicit)))
+    ∙ rw (c .before .worse2 .ensures, c .before .before .worse .ensures, c .before .before .before .sequence-worst .ensures, o .pre .0, c .before .before .before .before .polarity-severity .ensures, c .before .before .before .before .before .position-severity .ensures) (box-status (a .boxes) (listingOf (a .d .now) (a .syntax)))
 
 pub box-broken-spec : {M : Type 1} → statement M
 box-broken-spec =

@@ -1,11 +1,11 @@
 use mathlib.Core.Path.{sym, ap}
-use Rattle.boxes.specs.Images.{itemsImage}
+use Rattle.rules.specs.Attributes.{imageOf}
 use borrow.Author.Needs.{needs}
 use Rattle.boxes.proofs.image_of.Statement.{statement}
 use Rattle.boxes.proofs.image_of.Tie as tie
 
 returns-2 : tie.Need-returns-2
-returns-2 c = sym (ap itemsImage (c .before .items .given .1))
+returns-2 c = sym (ap imageOf (c .before .items .given .1))
 
 pub image-of-spec : {M : Type 1} → statement M
 image-of-spec =

@@ -1,8 +1,7 @@
 use mathlib.Core.Path.{sym, ap, _∙_}
-use Rattle.boxes.specs.Images.{listing}
 use Rattle.rules.specs.Commands.{bytesOf}
 use Rattle.rules.specs.Values.{blank, photometrics}
-use Rattle.rules.specs.Attributes.{look, codeAllowed}
+use Rattle.rules.specs.Attributes.{listing, look, codeAllowed}
 use Rattle.standings.proofs.Laws.{mandatory-severity}
 use borrow.Author.Needs.{needs}
 use Rattle.boxes.proofs.photometric_severity.Statement.{statement}
@@ -10,7 +9,8 @@ use Rattle.boxes.proofs.photometric_severity.Tie as tie
 
 returns : tie.Need-returns
 returns c =
-    let l = (listing (c .before .before .before .before .before .before .before .args .d .now) (c .before .before .before .before .before .before .before .args .explicit) 3 (c .before .before .before .before .before .before .before .args .inside)) in
+    let o : tie.Start = search in
+    let l = listing (o .args .d .now) (o .args .scope) in
     let e = c .before .before .before .before .before .look .ensures in
     let v = c .before .before .before .value .ensures ∙ ap (bytesOf (l .bytes)) (e .1) in
     c .severity .ensures

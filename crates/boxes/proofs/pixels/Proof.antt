@@ -1,6 +1,7 @@
 use mathlib.Core.Path.{subst}
 use lib.ListN.{length}
-use Rattle.boxes.specs.Images.{imageMeant, ImageWithin, PixelsFit}
+use Rattle.rules.specs.Attributes.{listingOf}
+use Rattle.boxes.specs.Images.{ImageWithin, PixelsFit}
 use borrow.Author.Needs.{needs}
 use Rattle.boxes.proofs.pixels.Statement.{statement}
 use Rattle.boxes.proofs.pixels.Tie as tie
@@ -9,7 +10,7 @@ item-pixels-requires : tie.Need-item-pixels-requires
 item-pixels-requires c κs = let s = c .before .before .before .before in
     let e = c .before .image .given .1 in
     let within = subst (ImageWithin (length (s .args .d .now))) e (s .pre .0) in
-    (within .0, within .1, subst (λ image. PixelsFit (imageMeant (s .args .d .now) (s .args .explicit) image)) e (s .pre .1))
+    (within .0, within .1, subst (PixelsFit (listingOf (s .args .d .now) (s .args .syntax))) e (s .pre .1))
 
 returns : tie.Need-returns
 returns c = (rw (c .enum-told .given .1), search needs, search needs)

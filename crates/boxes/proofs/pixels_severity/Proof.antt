@@ -5,9 +5,9 @@ use lib.Dec.{eqb}
 use lib.ListN.{length}
 use Rattle.rules.specs.Commands.{bytesOf}
 use Rattle.rules.specs.Values.{noBytes}
-use Rattle.rules.specs.Attributes.{look, pixelLength}
+use Rattle.rules.specs.Attributes.{listing, look, pixelLength}
 use Rattle.standings.proofs.Laws.{mandatory-severity}
-use Rattle.boxes.specs.Images.{listing, pixelStanding}
+use Rattle.boxes.specs.Images.{pixelStanding}
 use borrow.Author.Needs.{needs}
 use Rattle.boxes.proofs.pixels_severity.Statement.{statement}
 use Rattle.boxes.proofs.pixels_severity.Tie as tie
@@ -15,7 +15,7 @@ use Rattle.boxes.proofs.pixels_severity.Tie as tie
 returns : tie.Need-returns
 unfolding pixelStanding
 returns c =
-    let l = (listing (c .before .before .before .before .before .before .args .d .now) (c .before .before .before .before .before .before .args .explicit) 3 (c .before .before .before .before .before .before .args .inside)) in
+    let l = (listing (c .before .before .before .before .before .before .args .d .now) (c .before .before .before .before .before .before .args .scope)) in
     let e = c .before .before .before .before .look .ensures in
     let v = c .before .before .value .ensures ∙ ap (bytesOf (l .bytes)) (e .1) in
     c .severity .ensures

@@ -3,7 +3,7 @@ use mathlib.Core.Path.{_∙_}
 use lib.Dec.{leb}
 use borrow.Author.Tests.{lt-leb, le-leb}
 use Rattle.choice.specs.Pick.{both}
-use Rattle.boxes.specs.Images.{listing}
+use Rattle.rules.specs.Attributes.{listing}
 use Rattle.boxes.proofs.Laws.{number-by}
 use borrow.Author.Needs.{needs}
 use Rattle.boxes.proofs.position_severity.Statement.{statement}
@@ -12,18 +12,18 @@ use Rattle.boxes.proofs.position_severity.Tie as tie
 returns : tie.Need-returns
 returns c = let a = c .before .before .before .before .before .before .args in
     let n = c .before .before .before .sent-at .ensures in
-    let whole = c .before .before .before .before .whole in
+    let whole = c .before .before .before .before .data-scope in
     rw (← (whole .ensures .0))
     (c .us-severity .ensures
-    ∙ number-by (λ (n : ℕ). both (leb 1 n) (leb n (a .boxes))) (listing (a .d .now) (a .explicit) 4 (whole .result)) 0x2020_0010 _ _ _ _ (n .0) (n .1) (n .2) (rw (lt-leb _ _ (c .before .if1 .taken))))
+    ∙ number-by (λ (n : ℕ). both (leb 1 n) (leb n (a .boxes))) (listing (a .d .now) (whole .result)) 0x2020_0010 _ _ _ _ (n .0) (n .1) (n .2) (rw (lt-leb _ _ (c .before .if1 .taken))))
 
 returns-2 : tie.Need-returns-2
 returns-2 c = let a = c .before .before .before .before .before .before .args in
     let n = c .before .before .before .sent-at .ensures in
-    let whole = c .before .before .before .before .whole in
+    let whole = c .before .before .before .before .data-scope in
     rw (← (whole .ensures .0))
     (c .us-severity2 .ensures
-    ∙ number-by (λ (n : ℕ). both (leb 1 n) (leb n (a .boxes))) (listing (a .d .now) (a .explicit) 4 (whole .result)) 0x2020_0010 _ _ _ _ (n .0) (n .1) (n .2) (rw (le-leb _ _ (c .before .if1 .left))))
+    ∙ number-by (λ (n : ℕ). both (leb 1 n) (leb n (a .boxes))) (listing (a .d .now) (whole .result)) 0x2020_0010 _ _ _ _ (n .0) (n .1) (n .2) (rw (le-leb _ _ (c .before .if1 .left))))
 
 pub position-severity-spec : {M : Type 1} → statement M
 position-severity-spec =

@@ -20,5 +20,6 @@ general-broken-spec =
     (λ c κs. search needs)
     (λ c. search asked-by)
     (λ c κs. search needs)
+    (λ c κs. search needs)
     (λ c. search asked-by)
     (λ c. search asked-by))

@@ -6,7 +6,8 @@ use lib.ListN.{length-append}
 use native.Mathlib.Omega.{arith}
 use Rattle.strike.specs.Machine.{reads}
 use Rattle.rules.specs.Calls.{reading}
-use Rattle.rules.specs.Outcomes.{commandHeld, inputHeld}
+use Rattle.rules.specs.Records.{commandHeld}
+use Rattle.rules.specs.Outcomes.{inputHeld}
 use Rattle.collecting.specs.Collecting.{commandBefore, waitsWith, collectedOf}
 use Rattle.collecting.proofs.Filled.{held-back, held-filled}
 use Rattle.collecting.proofs.Outcomes.{command-arm, command-fits}

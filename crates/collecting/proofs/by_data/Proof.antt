@@ -32,11 +32,12 @@ returns-3 c =
 returns-4 : tie.Need-returns-4
 unfolding collect
 returns-4 c =
-    let s = c .before .before .before .before .before .before .before .before .before in
-    let a = s .args in
-    let e = sym (c .before .before .before .before .before .before .of .ensures) ∙ c .before .before .before .before .enum-told4 .given .1 in (
+    let k : tie.After-of = search in
+    let o : tie.Start = search in
+    let a = o .args in
+    let e = sym (k .of .ensures) ∙ c .before .before .before .before .enum-told4 .given .1 in (
       c .before .before .stored .ensures .0 ∙ sym (ap collectedOf (data-arm (length (now (a .message))) (a .i) (now (a .message)) (now (a .bytes)) (a .last) e)),
-      c .before .before .stored .ensures .1 ∙ laid-in (a .i) (now (a .message)) (now (a .bytes)) (a .last) (s .pre .1) ∙ sym (laid-arm (length (now (a .message))) (a .i) (now (a .message)) (now (a .bytes)) (a .last) e),
+      c .before .before .stored .ensures .1 ∙ laid-in (a .i) (now (a .message)) (now (a .bytes)) (a .last) (o .pre .1) ∙ sym (laid-arm (length (now (a .message))) (a .i) (now (a .message)) (now (a .bytes)) (a .last) e),
     )
 
 returns-5 : tie.Need-returns-5

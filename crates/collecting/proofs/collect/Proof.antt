@@ -15,7 +15,8 @@ use Rattle.collecting.proofs.collect.Tie as tie
 
 returns : tie.Need-returns
 returns c =
-    let a = c .before .before .before .before .before .before .before .args in
+    let o : tie.Start = search in
+    let a = o .args in
     let f = now (a .fragment) in
     let m = now (a .message) in
     let last = c .before .before .before .before .is-last .result in
@@ -28,12 +29,14 @@ returns c =
 
 returns-2 : tie.Need-returns-2
 returns-2 c =
-    let a = c .before .before .before .before .before .before .before .before .before .before .args in
+    let l : tie.After-is-last = search in
+    let o : tie.Start = search in
+    let a = o .args in
     let f = now (a .fragment) in
     let m = now (a .message) in
-    let last = c .before .before .before .before .before .before .before .is-last .result in
+    let last = l .is-last .result in
     let bytes = take (length f - 6) (drop 6 f) in
-    let e = fragment-of f false last bytes (sym (c .before .before .before .before .before .before .is-command .ensures) ∙ c .before .before .before .before .before .if1 .left) (c .before .before .before .before .before .before .before .is-last .ensures) (rest f 6) in (
+    let e = fragment-of f false last bytes (sym (c .before .before .before .before .before .before .is-command .ensures) ∙ c .before .before .before .before .before .if1 .left) (l .is-last .ensures) (rest f 6) in (
       c .before .before .by-data .ensures .0 ∙ ap (λ (x : Fragment). collectedOf (collect reading (length m) (inputIn (a .i) m) x)) e,
       c .before .before .by-data .ensures .1 ∙ ap (λ (x : Fragment). laidBy (length m) (inputIn (a .i) m) x m) e,
     )

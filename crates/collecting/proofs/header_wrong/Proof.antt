@@ -22,21 +22,24 @@ returns-3 c =
 
 returns-4 : tie.Need-returns-4
 returns-4 c =
-    let a = c .before .before .before .before .before .before .before .args in
+    let o : tie.Start = search in
+    let a = o .args in
     let n = c .before .before .before .before .big-number-at .ensures .0 in
     context-other (a .context) (now (a .fragment)) (c .before .before .before .before .before .if1 .left) (omega (arith, c .before .before .before .if2 .left, n)) (sym n ∙ c .before .before .if3 .left) (c .if4 .taken)
 
 returns-5 : tie.Need-returns-5
 returns-5 c =
-    let a = c .before .before .before .before .before .before .before .before .before .args in
-    let n = c .before .before .before .before .before .before .big-number-at .ensures .0 in
-    control-other (a .context) (now (a .fragment)) (c .before .before .before .before .before .before .before .if1 .left) (omega (arith, c .before .before .before .before .before .if2 .left, n)) (sym n ∙ c .before .before .before .before .if3 .left) (c .before .before .if4 .left) (c .if5 .taken)
+    let k : tie.After-big-number-at = search in
+    let n = k .big-number-at .ensures .0 in
+    let o : tie.Start = search in
+    control-other (o .args .context) (now (o .args .fragment)) (k .before .if1 .left) (omega (arith, c .before .before .before .before .before .if2 .left, n)) (sym n ∙ c .before .before .before .before .if3 .left) (c .before .before .if4 .left) (c .if5 .taken)
 
 returns-6 : tie.Need-returns-6
 returns-6 c =
-    let a = c .before .before .before .before .before .before .before .before .before .args in
-    let n = c .before .before .before .before .before .before .big-number-at .ensures .0 in
-    not-wrong (a .context) (now (a .fragment)) (c .before .before .before .before .before .before .before .if1 .left) (omega (arith, c .before .before .before .before .before .if2 .left, n)) (sym n ∙ c .before .before .before .before .if3 .left) (c .before .before .if4 .left) (c .if5 .left)
+    let k : tie.After-big-number-at = search in
+    let n = k .big-number-at .ensures .0 in
+    let o : tie.Start = search in
+    not-wrong (o .args .context) (now (o .args .fragment)) (k .before .if1 .left) (omega (arith, c .before .before .before .before .before .if2 .left, n)) (sym n ∙ c .before .before .before .before .if3 .left) (c .before .before .if4 .left) (c .if5 .left)
 
 pub header-wrong-spec : {M : Type 1} → statement M
 header-wrong-spec =

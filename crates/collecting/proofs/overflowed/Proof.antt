@@ -7,7 +7,7 @@ use Rattle.collecting.proofs.overflowed.Tie as tie
 returns : tie.Need-returns
 returns c =
     let a = c .before .before .before in
-    c .holding .ensures ∙ overflow-arm (a .args .i) (a .args .last) _ _ (a .pre) (c .before .overflow-answer .ensures) (c .before .before .after-data .ensures)
+    c .holding .ensures ∙ overflow-arm (a .args .i) (a .args .last) _ _ (a .pre) (c .before .data-answer .ensures) (c .before .before .after-data .ensures)
 
 pub overflowed-spec : {M : Type 1} → statement M
 overflowed-spec =

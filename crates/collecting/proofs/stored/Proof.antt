@@ -16,11 +16,12 @@ returns c =
 
 returns-2 : tie.Need-returns-2
 returns-2 c =
-    let a = c .before .before .before .before .before .before .before .before .before .before .before in
-    let i = a .args .i in
-    let fits = c .before .before .before .before .before .before .before .if1 .left in (
-      c .holding .ensures ∙ stored-arm i (now (a .args .message)) (now (a .args .bytes)) (a .args .last) (a .pre .1) _ _ (a .pre .0) (omega (arith, fits, a .pre .1)) (c .before .store-answer .ensures) (c .before .before .after-data .ensures),
-      c .before .before .before .before .before .put .ensures ∙ stored-all (i .got) (now (a .args .message)) (now (a .args .bytes)) (omega (arith, fits, a .pre .1)),
+    let put : tie.After-put = search in
+    let k : tie.Else1 = search in
+    let o : tie.Start = search in
+    let a = o .args in (
+      c .holding .ensures ∙ stored-arm (a .i) (now (a .message)) (now (a .bytes)) (a .last) (o .pre .1) _ _ (o .pre .0) (omega (arith, k .if1 .left, o .pre .1)) (c .before .data-answer .ensures) (c .before .before .after-data .ensures),
+      put .put .ensures ∙ stored-all (a .i .got) (now (a .message)) (now (a .bytes)) (omega (arith, k .if1 .left, o .pre .1)),
     )
 
 pub stored-spec : {M : Type 1} → statement M

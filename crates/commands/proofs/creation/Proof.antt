@@ -19,7 +19,8 @@ returns c = simp (← (c .before .has-uid .ensures ∙ held-uid (c .before .befo
 returns-2 : tie.Need-returns-2
 unfolding creationIn knownAs slotOf
 returns-2 c =
-    let held = c .before .before .before .before .before .before .before .pre in
+    let start : tie.Start = search in
+    let held = start .pre in
     c .known .ensures ∙ simp (← (c .before .before .before .before .has-uid .ensures ∙ held-uid held 0x0000_0002 (omega arith)), not-false (c .before .before .before .before .has-uid .result) (c .before .before .before .if1 .left)) (simp (← (held .each 0x0000_0002 (omega arith)), ← (held .each 0x0000_1000 (omega arith))))
 
 pub creation-spec : {M : Type 1} → statement M

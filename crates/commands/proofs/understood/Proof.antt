@@ -21,12 +21,15 @@ returns-3 : tie.Need-returns-3
 returns-3 c = not-numbered _ (sym (c .before .has-numbers .ensures) ∙ not-true (c .before .has-numbers .result) (c .if3 .taken))
 
 request-requires : tie.Need-request-requires
-request-requires c κs = c .before .before .before .before .before .before .before .gathered .ensures .held (not-false (c .before .before .before .before .before .before .before .gathered .result .whole) (c .before .before .before .before .before .if1 .left))
+request-requires c κs =
+    let after-gathered : tie.After-gathered = search in
+    after-gathered .gathered .ensures .held (not-false (after-gathered .gathered .result .whole) (c .before .before .before .before .before .if1 .left))
 
 returns-4 : tie.Need-returns-4
 returns-4 c =
+    let after-gathered : tie.After-gathered = search in
     c .request .ensures
-    ∙ asks _ (sym (c .before .before .before .before .before .before .before .before .gathered .ensures .told) ∙ not-false (c .before .before .before .before .before .before .before .before .gathered .result .whole) (c .before .before .before .before .before .before .if1 .left)) (sym (c .before .before .before .before .length-told .ensures) ∙ not-false (c .before .before .before .before .length-told .result) (c .before .before .before .if2 .left)) (sym (c .before .before .has-numbers .ensures) ∙ not-false (c .before .before .has-numbers .result) (c .before .if3 .left))
+    ∙ asks _ (sym (after-gathered .gathered .ensures .told) ∙ not-false (after-gathered .gathered .result .whole) (c .before .before .before .before .before .before .if1 .left)) (sym (c .before .before .before .before .length-told .ensures) ∙ not-false (c .before .before .before .before .length-told .result) (c .before .before .before .if2 .left)) (sym (c .before .before .has-numbers .ensures) ∙ not-false (c .before .before .has-numbers .result) (c .before .if3 .left))
 
 pub understood-spec : {M : Type 1} → statement M
 understood-spec =

@@ -11,22 +11,24 @@ use Rattle.creating.proofs.new_film.Tie as tie
 
 name-from-requires : tie.Need-name-from-requires
 name-from-requires c κs = let s = c .before .before .before in
-    let h = film-kept (s .args .k) (s .args .sent .now) (listingOf (s .args .d .now) (s .args .explicit)) (s .pre .1) in
+    let h = film-kept (s .args .k) (s .args .sent .now) (listingOf (s .args .d .now) (s .args .syntax)) (s .pre .1) in
     (s .pre .0, serial-left (s .args .k .numbers) (s .args .sent .now) (own-left _ _ _ (h .serials)))
 
 new-boxes-requires : tie.Need-new-boxes-requires
-new-boxes-requires c κs = let few = layout-few (listingOf (c .before .before .before .before .before .before .args .d .now) (c .before .before .before .before .before .before .args .explicit)) in
+new-boxes-requires c κs = let few = layout-few (listingOf (c .before .before .before .before .before .before .args .d .now) (c .before .before .before .before .before .before .args .syntax)) in
     omega (arith, few, c .box-count .ensures .0 ∙ ap boxCount (c .before .layout-in .ensures))
 
 add-next : tie.Need-add-next
-add-next c = let s = c .before .before .before .before .before .before .before .before .before in
-    let h = film-kept (s .args .k) (s .args .sent .now) (listingOf (s .args .d .now) (s .args .explicit)) (s .pre .1) in
+add-next c =
+    let s : tie.Start = search in
+    let h = film-kept (s .args .k) (s .args .sent .now) (listingOf (s .args .d .now) (s .args .syntax)) (s .pre .1) in
     let first = first-fits _ _ _ _ (h .serials) (h .some) (c .before .own-serials .ensures .0) in
     search needs
 
 cast-first : tie.Need-cast-first
-cast-first c = let s = c .before .before .before .before .before .before .before .before .before in
-    let h = film-kept (s .args .k) (s .args .sent .now) (listingOf (s .args .d .now) (s .args .explicit)) (s .pre .1) in
+cast-first c =
+    let s : tie.Start = search in
+    let h = film-kept (s .args .k) (s .args .sent .now) (listingOf (s .args .d .now) (s .args .syntax)) (s .pre .1) in
     let first = first-fits _ _ _ _ (h .serials) (h .some) (c .before .own-serials .ensures .0) in
     search needs
 

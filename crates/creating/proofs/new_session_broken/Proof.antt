@@ -8,23 +8,31 @@ use Rattle.creating.proofs.new_session_broken.Tie as tie
 
 returns : tie.Need-returns
 returns c = let a = c .before .before .before .before .args in
-    let l = listingOf (a .d .now) (a .explicit) in
+    let l = listingOf (a .d .now) (a .syntax) in
     attributes-broken (sessionStandings l) (sessionRows (a .k) (a .sent .now)) _ (c .before .session-broken .ensures) (c .if1 .taken)
 
 returns-2 : tie.Need-returns-2
-returns-2 c = let a = c .before .before .before .before .before .before .before .args in
-    let l = listingOf (a .d .now) (a .explicit) in
+returns-2 c =
+    let start : tie.Start = search in
+    let a = start .args in
+    let l = listingOf (a .d .now) (a .syntax) in
     attributes-kept (sessionStandings l) (sessionRows (a .k) (a .sent .now)) _ (c .before .before .before .before .session-broken .ensures) (c .before .before .before .if1 .left) (rw (ne-eqb (a .k .session .live) 0 (c .if2 .taken)))
 
 returns-3 : tie.Need-returns-3
-returns-3 c = let a = c .before .before .before .before .before .before .before .before .before .before .before .args in
-    let l = listingOf (a .d .now) (a .explicit) in
-    attributes-kept (sessionStandings l) (sessionRows (a .k) (a .sent .now)) _ (c .before .before .before .before .before .before .before .before .session-broken .ensures) (c .before .before .before .before .before .before .before .if1 .left) (rw (eq-eqb (a .k .session .live) 0 (c .before .before .before .before .if2 .left), sym (c .before .before .own-serials .ensures .0), sym (c .before .too-few-serials .ensures) ∙ c .if3 .taken))
+returns-3 c =
+    let else1 : tie.Else1 = search in
+    let start : tie.Start = search in
+    let a = start .args in
+    let l = listingOf (a .d .now) (a .syntax) in
+    attributes-kept (sessionStandings l) (sessionRows (a .k) (a .sent .now)) _ (else1 .before .session-broken .ensures) (else1 .if1 .left) (rw (eq-eqb (a .k .session .live) 0 (c .before .before .before .before .if2 .left), sym (c .before .before .own-serials .ensures .0), sym (c .before .too-few-serials .ensures) ∙ c .if3 .taken))
 
 returns-4 : tie.Need-returns-4
-returns-4 c = let a = c .before .before .before .before .before .before .before .before .before .before .before .args in
-    let l = listingOf (a .d .now) (a .explicit) in
-    attributes-kept (sessionStandings l) (sessionRows (a .k) (a .sent .now)) _ (c .before .before .before .before .before .before .before .before .session-broken .ensures) (c .before .before .before .before .before .before .before .if1 .left) (rw (eq-eqb (a .k .session .live) 0 (c .before .before .before .before .if2 .left), sym (c .before .before .own-serials .ensures .0), sym (c .before .too-few-serials .ensures) ∙ c .if3 .left))
+returns-4 c =
+    let else1 : tie.Else1 = search in
+    let start : tie.Start = search in
+    let a = start .args in
+    let l = listingOf (a .d .now) (a .syntax) in
+    attributes-kept (sessionStandings l) (sessionRows (a .k) (a .sent .now)) _ (else1 .before .session-broken .ensures) (else1 .if1 .left) (rw (eq-eqb (a .k .session .live) 0 (c .before .before .before .before .if2 .left), sym (c .before .before .own-serials .ensures .0), sym (c .before .too-few-serials .ensures) ∙ c .if3 .left))
 
 pub new-session-broken-spec : {M : Type 1} → statement M
 new-session-broken-spec =

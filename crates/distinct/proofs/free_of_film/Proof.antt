@@ -6,10 +6,14 @@ returns : tie.Need-returns
 returns c = simp (← (c .before .before .own-count .ensures .0), ← (c .before .overlapping .ensures), c .if1 .taken)
 
 returns-2 : tie.Need-returns-2
-returns-2 c = simp (← (c .before .before .before .before .before .before .before .before .own-count .ensures .0), ← (c .before .before .before .before .before .before .before .overlapping .ensures), c .before .before .before .before .before .before .if1 .left, ← (c .before .before .box-count .ensures .0), ← (c .before .overlapping2 .ensures), c .if2 .taken)
+returns-2 c =
+    let after-overlapping : tie.After-overlapping = search in
+    simp (← (after-overlapping .before .own-count .ensures .0), ← (after-overlapping .overlapping .ensures), c .before .before .before .before .before .before .if1 .left, ← (c .before .before .box-count .ensures .0), ← (c .before .overlapping2 .ensures), c .if2 .taken)
 
 returns-3 : tie.Need-returns-3
-returns-3 c = simp (← (c .before .before .before .before .before .before .before .before .own-count .ensures .0), ← (c .before .before .before .before .before .before .before .overlapping .ensures), c .before .before .before .before .before .before .if1 .left, ← (c .before .before .box-count .ensures .0), ← (c .before .overlapping2 .ensures), c .if2 .left)
+returns-3 c =
+    let after-overlapping : tie.After-overlapping = search in
+    simp (← (after-overlapping .before .own-count .ensures .0), ← (after-overlapping .overlapping .ensures), c .before .before .before .before .before .before .if1 .left, ← (c .before .before .box-count .ensures .0), ← (c .before .overlapping2 .ensures), c .if2 .left)
 
 pub free-of-film-spec : {M : Type 1} → statement M
 free-of-film-spec =

@@ -12,9 +12,12 @@ returns c = let w = c .before .within .ensures in
     empty-text (a .a .text) _ (a .a .used) (w .0) (w .1) (sentText (a .b)) (c .if1 .taken)
 
 returns-2 : tie.Need-returns-2
-returns-2 c = let w = c .before .before .before .before .before .before .before .before .before .before .within .ensures in
-    let a = c .before .before .before .before .before .before .before .before .before .before .before .before .before .before .args in
-    simp unary-clauses at (c .same-bytes .ensures) ∙ cut-text (a .a .text) _ (a .a .used) (w .0) (w .1) (a .b .text) (c .before .before .before .before .before .within2 .result) (a .b .used) (c .before .before .before .before .before .within2 .ensures .1) (c .before .before .before .before .before .before .before .before .before .if1 .left)
+returns-2 c =
+    let else1 : tie.Else1 = search in
+    let start : tie.Start = search in
+    let w = else1 .before .within .ensures in
+    let a = start .args in
+    simp unary-clauses at (c .same-bytes .ensures) ∙ cut-text (a .a .text) _ (a .a .used) (w .0) (w .1) (a .b .text) (c .before .before .before .before .before .within2 .result) (a .b .used) (c .before .before .before .before .before .within2 .ensures .1) (else1 .if1 .left)
 
 pub same-text-spec : {M : Type 1} → statement M
 same-text-spec =

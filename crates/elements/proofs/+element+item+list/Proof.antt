@@ -3,7 +3,7 @@ use native.Mathlib.Omega.{arith}
 use mathlib.Core.Path.{_≡_, refl, sym, _∙_}
 use lib.ListN.{length}
 use borrow.Author.Needs.{needs}
-use Rattle.elements.specs.Reader.{elementAt, listAt, listFrom, itemsFrom}
+use Rattle.elements.specs.Reader.{elementAt, elementIn, listAt, listFrom, itemsFrom}
 use Rattle.elements.proofs.Laws.{element-past, item-past, head-nest, item-head-nest, element-fault, element-value, element-full, element-nest, item-fault, item-value, item-nest, items-done, items-refused, items-more, list-done, list-refused, list-more}
 use borrow.Fn.Kinds.{In}
 use borrow.Fn.PlainCycle.{Measures, is, falls, and}
@@ -30,7 +30,7 @@ abbrev μ-item : Measures 1 item-kinds.ps ℕ
 μ-item κs a = 3 * a .1 .1 .0 + 3
 
 abbrev μ-list : Measures 1 list-kinds.ps ℕ
-μ-list κs a = 3 * a .1 .1 .0 + 2
+μ-list κs a = 3 * a .1 .0 .room + 2
 
 abbrev element-at : ℕ → In 1 element-kinds.ps
 element-at t = and 1 element-kinds.ps (is 1 element-kinds.ps μ-element t) element.Pre
@@ -61,11 +61,15 @@ abbrev list-calls : ℕ → list-lts.Claims
 list-calls t = (closing-reads.Asked, closing-reads.Learnt, element-below t, element.Post, tag-at-reads.Asked, tag-at-reads.Learnt)
 
 abbrev element-Inv-loop : element-lts.InvT-loop
-element-Inv-loop s explicit room end at floor inside p₀ p =
-    (p ≤ inside .stop) × ((inside .stop ≤ length s) × (itemsFrom (elementAt s explicit (room - 1)) s inside (inside .from) ≡ itemsFrom (elementAt s explicit (room - 1)) s inside p))
+element-Inv-loop s syntax room end at floor inside p₀ p =
+    (p ≤ inside .stop) × ((inside .stop ≤ length s) × (itemsFrom (elementAt s syntax (room - 1)) s inside (inside .from) ≡ itemsFrom (elementAt s syntax (room - 1)) s inside p))
 
 abbrev element-μ-loop : element-lts.MeasureT-loop
-element-μ-loop s explicit room end at floor inside p₀ p = inside .stop - p
+element-μ-loop s syntax room end at floor inside p₀ p = inside .stop - p
+
+-- at the head of the loop over the items
+abbrev Items-loop : ℕ → Type 0
+Items-loop t = element-lts.At-loop (element-calls t) (element-at t) element.Post element-Inv-loop element-μ-loop
 
 element-returns : (t : ℕ) → element-lts.Need-returns (element-calls t) (element-at t) element.Post element-Inv-loop element-μ-loop
 element-returns t c =
@@ -83,19 +87,19 @@ element-returns-2 t c =
 
 element-loop-less : (t : ℕ) → element-lts.Need-loop-less (element-calls t) (element-at t) element.Post element-Inv-loop element-μ-loop
 element-loop-less t c =
-    let o = c .before .before .before .before .before .before .before in
+    let o : Items-loop t = search in
     let b = item-past _ _ _ (o .loop .inv .0) _ _ (sym (c .before .before .before .item .ensures) ∙ c .before .q .given .1) in
     omega arith
 
 element-loop-again : (t : ℕ) → element-lts.Need-loop-again (element-calls t) (element-at t) element.Post element-Inv-loop element-μ-loop
 element-loop-again t c =
-    let o = c .before .before .before .before .before .before .before in
+    let o : Items-loop t = search in
     let e = sym (c .before .before .before .item .ensures) ∙ c .before .q .given .1 in
     (item-past _ _ _ (o .loop .inv .0) _ _ e .1, (o .loop .inv .1 .0, o .loop .inv .1 .1 ∙ items-more _ _ _ _ _ (o .loop .inv .0) (sym (c .before .before .before .before .before .before .closing .ensures) ∙ c .before .before .before .before .enum-told .given .1) e))
 
 element-returns-3 : (t : ℕ) → element-lts.Need-returns-3 (element-calls t) (element-at t) element.Post element-Inv-loop element-μ-loop
 element-returns-3 t c =
-    let o = c .before .before .before .before .before .before .before in
+    let o : Items-loop t = search in
     let e = sym (c .before .before .before .item .ensures) ∙ c .before .n2 .given .1 in
     sym (element-nest _ _ _ _ _ _ (o .before .if1 .left) (sym (o .before .before .before .before .before .element-head .ensures) ∙ o .before .before .before .inside .given .1) ∙ o .loop .inv .1 .1 ∙ items-refused _ _ _ _ _ (o .loop .inv .0) (sym (c .before .before .before .before .before .before .closing .ensures) ∙ c .before .before .before .before .enum-told .given .1) e)
 
@@ -125,15 +129,19 @@ item-returns-3 t c =
     c .list .ensures ∙ sym (item-nest _ _ _ _ _ (sym (c .before .before .before .before .item-head .ensures) ∙ c .before .before .inside .given .1))
 
 abbrev list-Inv-loop : list-lts.InvT-loop
-list-Inv-loop s explicit room inside p₀ floor₀ p floor =
-    (p ≤ inside .stop) × (listAt s explicit room inside ≡ listFrom (elementAt s explicit room) s inside (record { at = p; floor = floor }))
+list-Inv-loop s scope syntax inside p₀ floor₀ p floor =
+    (p ≤ scope .inside .stop) × (listAt s scope ≡ listFrom (elementIn s scope) s (scope .inside) (record { at = p; floor = floor }))
 
 abbrev list-μ-loop : list-lts.MeasureT-loop
-list-μ-loop s explicit room inside p₀ floor₀ p floor = inside .stop - p
+list-μ-loop s scope syntax inside p₀ floor₀ p floor = scope .inside .stop - p
+
+-- at the head of the loop over the elements
+abbrev Elements-loop : ℕ → Type 0
+Elements-loop t = list-lts.At-loop (list-calls t) (list-at t) list.Post list-Inv-loop list-μ-loop
 
 list-loop-holds : (t : ℕ) → list-lts.Need-loop-holds (list-calls t) (list-at t) list.Post list-Inv-loop list-μ-loop
 unfolding listAt
-list-loop-holds t c = (c .before .pre .1 .0, refl)
+list-loop-holds t c = let start : list-lts.Start (list-calls t) (list-at t) list.Post list-Inv-loop list-μ-loop = search in (start .pre .1 .0, refl)
 
 list-returns : (t : ℕ) → list-lts.Need-returns (list-calls t) (list-at t) list.Post list-Inv-loop list-μ-loop
 list-returns t c =
@@ -142,25 +150,26 @@ list-returns t c =
 
 list-tag-at-requires : (t : ℕ) → list-lts.Need-tag-at-requires (list-calls t) (list-at t) list.Post list-Inv-loop list-μ-loop
 list-tag-at-requires t c κs =
-    let o = c .before .before .before .before .before .before .before in
+    let o : Elements-loop t = search in
     let b = element-past _ _ _ _ _ (o .loop .inv .0) _ (sym (c .before .before .before .element .ensures) ∙ c .before .q .given .1) in
     omega arith
 
 list-loop-less : (t : ℕ) → list-lts.Need-loop-less (list-calls t) (list-at t) list.Post list-Inv-loop list-μ-loop
 list-loop-less t c =
-    let o = c .before .before .before .before .before .before .before .before in
+    let o : Elements-loop t = search in
     let b = element-past _ _ _ _ _ (o .loop .inv .0) _ (sym (c .before .before .before .before .element .ensures) ∙ c .before .before .q .given .1) in
     omega arith
 
 list-loop-again : (t : ℕ) → list-lts.Need-loop-again (list-calls t) (list-at t) list.Post list-Inv-loop list-μ-loop
 list-loop-again t c =
-    let o = c .before .before .before .before .before .before .before .before in
+    let o : Elements-loop t = search in
     let e = sym (c .before .before .before .before .element .ensures) ∙ c .before .before .q .given .1 in
-    (element-past _ _ _ _ _ (o .loop .inv .0) _ e .1, rw (c .tag-at .ensures .0) (o .loop .inv .1 ∙ list-more _ _ _ _ _ (o .loop .inv .0) _ (sym (c .before .before .before .before .before .before .before .closing .ensures) ∙ c .before .before .before .before .before .enum-told .given .1) e))
+    let unclosed = c .before .before .before .before .before in
+    (element-past _ _ _ _ _ (o .loop .inv .0) _ e .1, rw (c .tag-at .ensures .0) (o .loop .inv .1 ∙ list-more _ _ _ _ _ (o .loop .inv .0) _ (sym (unclosed .before .before .closing .ensures) ∙ unclosed .enum-told .given .1) e))
 
 list-returns-2 : (t : ℕ) → list-lts.Need-returns-2 (list-calls t) (list-at t) list.Post list-Inv-loop list-μ-loop
 list-returns-2 t c =
-    let o = c .before .before .before .before .before .before .before in
+    let o : Elements-loop t = search in
     let e = sym (c .before .before .before .element .ensures) ∙ c .before .n .given .1 in
     sym (o .loop .inv .1 ∙ list-refused _ _ _ _ _ (o .loop .inv .0) _ (sym (c .before .before .before .before .before .before .closing .ensures) ∙ c .before .before .before .before .enum-told .given .1) e)
 

@@ -16,10 +16,18 @@ returns-4 : tie.Need-returns-4
 returns-4 c = simp (← (c .before .before .before .before .message-wrong .ensures), c .before .before .before .if1 .left, le-ltb _ _ (c .before .before .if2 .left), le-ltb _ _ (c .before .if3 .left), lt-ltb _ _ (c .if4 .taken))
 
 returns-5 : tie.Need-returns-5
-returns-5 c = simp (← (c .before .before .before .before .before .before .before .message-wrong .ensures), c .before .before .before .before .before .before .if1 .left, le-ltb _ _ (c .before .before .before .before .before .if2 .left), le-ltb _ _ (c .before .before .before .before .if3 .left), le-ltb _ _ (c .before .before .before .if4 .left)) (simp (eq-eqb _ _ (c .if5 .taken)))
+returns-5 c =
+    let one : tie.Else1 = search in
+    let four : tie.Else4 = search in
+    simp (← (one .before .message-wrong .ensures), one .if1 .left, le-ltb _ _ (four .before .before .if2 .left), le-ltb _ _ (four .before .if3 .left), le-ltb _ _ (four .if4 .left))
+    (simp (eq-eqb _ _ (c .if5 .taken)))
 
 returns-6 : tie.Need-returns-6
-returns-6 c = simp (← (c .before .before .before .before .before .before .before .message-wrong .ensures), c .before .before .before .before .before .before .if1 .left, le-ltb _ _ (c .before .before .before .before .before .if2 .left), le-ltb _ _ (c .before .before .before .before .if3 .left), le-ltb _ _ (c .before .before .before .if4 .left)) (simp (ne-eqb _ _ (c .if5 .left)))
+returns-6 c =
+    let one : tie.Else1 = search in
+    let four : tie.Else4 = search in
+    simp (← (one .before .message-wrong .ensures), one .if1 .left, le-ltb _ _ (four .before .before .if2 .left), le-ltb _ _ (four .before .if3 .left), le-ltb _ _ (four .if4 .left))
+    (simp (ne-eqb _ _ (c .if5 .left)))
 
 pub feed-refused-spec : {M : Type 1} → statement M
 feed-refused-spec =

@@ -10,22 +10,34 @@ use Rattle.feeding.proofs.respond.Statement.{statement}
 use Rattle.feeding.proofs.respond.Tie as tie
 
 put-data-requires : tie.Need-put-data-requires
-put-data-requires c κs = let start = c .before .before .before .before .before .before in
-    (start .pre .1, root-short (start .args .k) (start .pre .3), start .pre .5)
+put-data-requires c κs =
+    let o : tie.Start = search in
+    (o .pre .1, root-short (o .args .k) (o .pre .3), o .pre .5)
 
 put-uid-requires : tie.Need-put-uid-requires
-put-uid-requires c κs = let start = c .before .before .before .before .before .before .before .before .before .before .before .before in
-    (search needs, root-short (start .args .k) (start .pre .3))
+put-uid-requires c κs =
+    let filled : tie.After-put-data = search in
+    let o : tie.Start = search in
+    (search needs, root-short (o .args .k) (o .pre .3))
 
 put-command-requires : tie.Need-put-command-requires
-put-command-requires c κs = (search needs, c .before .before .before .before .before .before .before .before .before .before .before .before .before .before .before .before .before .pre .4, front-short _ _ _ 64 (c .front .ensures) (c .before .before .before .before .put-uid .ensures .2))
+put-command-requires c κs =
+    let uid : tie.After-put-uid = search in
+    let filled : tie.After-put-data = search in
+    let o : tie.Start = search in
+    (search needs, o .pre .4, front-short _ _ _ 64 (c .front .ensures) (uid .put-uid .ensures .2))
 
 returns : tie.Need-returns
-returns c = let a = c .before .before .before .before .before .before .before .before .before .before .before .before .before .before .before .before .before .before .before .before .before .before .before .before .before .args in
-    let uid = c .before .before .before .before .before .before .before .before .before .before .before .before .put-uid .ensures in
-    let front = c .before .before .before .before .before .before .before .before .front in
-    let told = front .ensures ∙ laid-front _ _ (uidOf (a .k .numbers) (a .v .instance)) _ (uid .0) (uid .1) in
-    responded (a .k) (now (a .c)) (a .request) (a .v) _ _ (now (front .result)) (now (a .command)) _ (now (a .data-set)) _ (now (a .report)) _ (ap given told ∙ uid .3) (c .before .before .before .before .before .before .before .before .before .before .before .before .before .before .before .before .before .before .put-data .ensures) (c .before .before .before .before .before .before .before .put-command .ensures) (c .before .before .put-note .ensures)
+returns c =
+    let note : tie.After-put-note = search in
+    let command : tie.After-put-command = search in
+    let front : tie.After-front = search in
+    let uid : tie.After-put-uid = search in
+    let filled : tie.After-put-data = search in
+    let o : tie.Start = search in
+    let a = o .args in
+    let told = front .front .ensures ∙ laid-front _ _ (uidOf (a .k .numbers) (a .v .instance)) _ (uid .put-uid .ensures .0) (uid .put-uid .ensures .1) in
+    responded (a .k) (now (a .c)) (a .request) (a .v) _ _ (now (front .front .result)) (now (a .command)) _ (now (a .data-set)) _ (now (a .report)) _ (ap given told ∙ uid .put-uid .ensures .3) (filled .put-data .ensures) (command .put-command .ensures) (note .put-note .ensures)
 
 pub respond-spec : {M : Type 1} → statement M
 respond-spec =

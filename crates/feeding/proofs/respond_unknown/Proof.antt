@@ -5,8 +5,11 @@ use Rattle.feeding.proofs.respond_unknown.Statement.{statement}
 use Rattle.feeding.proofs.respond_unknown.Tie as tie
 
 returns : tie.Need-returns
-returns c = let a = c .before .before .before .before .before .before .before .before .before .before .before .before .args in
-    unknown-responded (a .message) (a .field) _ (now (a .command)) _ (now (a .report)) _ (c .before .before .before .before .before .before .put-response .ensures) (c .before .before .put-report .ensures)
+returns c =
+    let response : tie.After-put-response = search in
+    let o : tie.Start = search in
+    let a = o .args in
+    unknown-responded (a .message) (a .field) _ (now (a .command)) _ (now (a .report)) _ (response .put-response .ensures) (c .before .before .put-report .ensures)
 
 pub respond-unknown-spec : {M : Type 1} → statement M
 respond-unknown-spec =

@@ -5,7 +5,9 @@ use Rattle.fields.proofs.bytes_at.Statement.{statement}
 use Rattle.fields.proofs.bytes_at.Tie as tie
 
 returns : tie.Need-returns
-returns c = let a = c .before .before .before .before .before .before .before .args in
+returns c =
+    let start : tie.Start = search in
+    let a = start .args in
     copied-out (now (a .s)) (now (a .d)) (c .before .before .copy .last .1 .0) (a .at) (search needs) (c .before .before .copy .ensures .1)
 
 pub bytes-at-spec : {M : Type 1} → statement M

@@ -6,8 +6,9 @@ use Rattle.instances.proofs.box_place.Statement.{statement}
 use Rattle.instances.proofs.box_place.Tie as tie
 
 made-place-requires : tie.Need-made-place-requires
-made-place-requires c κs = let pre = c .before .before .before .before .before .before .before .before .pre in
-    omega (arith, c .before .before .before .before .box-count .ensures .0, pre)
+made-place-requires c κs =
+    let start : tie.Start = search in
+    omega (arith, c .before .before .before .before .box-count .ensures .0, start .pre)
 
 returns : tie.Need-returns
 unfolding boxUids rootOf

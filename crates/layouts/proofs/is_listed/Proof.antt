@@ -29,13 +29,15 @@ returns-2 c =
 
 returns-3 : tie.Need-returns-3 Inv-loop μ-loop
 returns-3 c =
-    let o = c .before .before .before .before .before .before .before .loop in
-    sym (o .inv .1 ∙ listed-apart _ (o .i) (c .before .before .before .before .before .before .loop-test .taken) (sym (c .before .before .before .before .one-to-six .ensures) ∙ not-false (c .before .before .before .before .one-to-six .result) (c .before .before .before .if1 .left)) (search needs) (c .if3 .taken))
+    let turn = c .before .before .before .before .before .before in
+    let o = turn .before .loop in
+    sym (o .inv .1 ∙ listed-apart _ (o .i) (turn .loop-test .taken) (sym (c .before .before .before .before .one-to-six .ensures) ∙ not-false (c .before .before .before .before .one-to-six .result) (c .before .before .before .if1 .left)) (search needs) (c .if3 .taken))
 
 loop-again : tie.Need-loop-again Inv-loop μ-loop
 loop-again c =
-    let o = c .before .before .before .before .before .before .before .loop in
-    (search needs, o .inv .1 ∙ listed-on _ (o .i) (c .before .before .before .before .before .before .loop-test .taken) (sym (c .before .before .before .before .one-to-six .ensures) ∙ not-false (c .before .before .before .before .one-to-six .result) (c .before .before .before .if1 .left)) (search needs) (c .if3 .left))
+    let turn = c .before .before .before .before .before .before in
+    let o = turn .before .loop in
+    (search needs, o .inv .1 ∙ listed-on _ (o .i) (turn .loop-test .taken) (sym (c .before .before .before .before .one-to-six .ensures) ∙ not-false (c .before .before .before .before .one-to-six .result) (c .before .before .before .if1 .left)) (search needs) (c .if3 .left))
 
 returns-4 : tie.Need-returns-4 Inv-loop μ-loop
 returns-4 c = sym (c .before .loop .inv .1 ∙ listed-end _ (c .before .loop .i) (c .loop-test .left))

@@ -2,9 +2,9 @@ use mathlib.Core.Path.{refl, sym, ap, _∙_}
 use native.Mathlib.Omega.{arith}
 use lib.ListN.{drop, length-replicate, length-drop}
 use Rattle.rules.specs.Lists.{filledTo}
-use Rattle.rules.specs.Values.{numbersIn, byColumns}
+use Rattle.rules.specs.Values.{numbersIn}
 use Rattle.octets.proofs.Parts.{rest}
-use Rattle.promises.proofs.Layouts.{listed-numbers}
+use Rattle.rules.proofs.Formats.{listed-length}
 use Rattle.layouts.proofs.Laws.{standard-has, uneven-has, layout-told, standard-counts, uneven-counts, no-counts}
 use borrow.Author.Needs.{needs}
 use Rattle.layouts.proofs.layout_in.Statement.{statement}
@@ -27,8 +27,11 @@ even-counts-requires c κs = omega (arith, standard-has _ (sym (c .before .befor
 
 returns : tie.Need-returns
 returns c =
-    layout-told (byColumns (c .before .before .before .before .before .before .before .before .args .s .now)) (c .before .before .before .before .before .before .turned-in .ensures)
-    (standard-counts _ _ (c .before .before .before .before .before .without-trailing .ensures) (sym (c .before .before .before .before .is-standard .ensures) ∙ c .before .before .before .if1 .taken))
+    let even : tie.Then1 = search in
+    let cut : tie.After-without-trailing = search in
+    let known = cut .before in
+    layout-told _ (known .kind-in .ensures)
+    (standard-counts _ _ (cut .without-trailing .ensures) (sym (even .before .is-standard .ensures) ∙ even .if1 .taken))
     (sym (length-replicate _ _))
     (c .even-counts .ensures)
 
@@ -52,19 +55,26 @@ listed-counts-requires c κs =
 
 returns-2 : tie.Need-returns-2
 returns-2 c =
-    let t = c .before .before .before .before .before .before .without-trailing .result .now in
-    let uneven = sym (c .before .before .before .is-uneven .ensures) ∙ c .before .before .if2 .taken in
+    let listed : tie.Then2 = search in
+    let other : tie.Else1 = search in
+    let cut : tie.After-without-trailing = search in
+    let known = cut .before in
+    let t = cut .without-trailing .result .now in
+    let uneven = sym (listed .before .is-uneven .ensures) ∙ listed .if2 .taken in
     let has = uneven-has t uneven in
-    let n = listed-numbers (drop 4 t) (has .0) .0 in
-    layout-told (byColumns (c .before .before .before .before .before .before .before .before .before .args .s .now)) (c .before .before .before .before .before .before .before .turned-in .ensures)
-    (uneven-counts _ _ (c .before .before .before .before .before .before .without-trailing .ensures) (sym (c .before .before .before .before .before .is-standard .ensures) ∙ c .before .before .before .before .if1 .left) uneven)
+    let n = listed-length (drop 4 t) (has .0) in
+    layout-told _ (known .kind-in .ensures)
+    (uneven-counts _ _ (cut .without-trailing .ensures) (sym (other .before .is-standard .ensures) ∙ other .if1 .left) uneven)
     (omega (arith, has .1, length-drop 4 t))
     (c .listed-counts .ensures ∙ ap (λ z. filledTo 6 0 (numbersIn z)) (rest t 4))
 
 returns-3 : tie.Need-returns-3
 returns-3 c =
-    layout-told (byColumns (c .before .before .before .before .before .before .before .args .s .now)) (c .before .before .before .before .before .turned-in .ensures)
-    (no-counts _ _ (c .before .before .before .before .without-trailing .ensures) (sym (c .before .before .before .is-standard .ensures) ∙ c .before .before .if1 .left) (sym (c .before .is-uneven .ensures) ∙ c .if2 .left))
+    let other : tie.Else1 = search in
+    let cut : tie.After-without-trailing = search in
+    let known = cut .before in
+    layout-told _ (known .kind-in .ensures)
+    (no-counts _ _ (cut .without-trailing .ensures) (sym (other .before .is-standard .ensures) ∙ other .if1 .left) (sym (c .before .is-uneven .ensures) ∙ c .if2 .left))
     refl
     refl
 

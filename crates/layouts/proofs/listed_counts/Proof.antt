@@ -4,7 +4,7 @@ use native.Mathlib.Omega.{arith}
 use lib.ListN.{length, getD, set, take}
 use Rattle.rules.specs.Lists.{filledTo}
 use Rattle.rules.specs.Values.{numbersIn}
-use Rattle.promises.proofs.Layouts.{listed-numbers}
+use Rattle.rules.proofs.Formats.{listed-length}
 use Rattle.layouts.proofs.Laws.{number-at, lines-turn, lines-done}
 use borrow.Author.Needs.{needs}
 use Rattle.layouts.proofs.listed_counts.Statement.{statement}
@@ -31,7 +31,7 @@ loop-again c =
     let o = c .before .before .loop in
     let s = start .args .s .now in
     let taken = c .before .loop-test .taken in
-    let count = listed-numbers s (start .pre .0) .0 in (
+    let count = listed-length s (start .pre .0) in (
       omega (arith, taken),
       search needs,
       ap (λ z. set z (o .i) (getD s (2 * o .i) 0 - 48)) (o .inv .2)
@@ -43,7 +43,7 @@ returns c =
     let start = c .before .before in
     let o = c .before .loop in
     let s = start .args .s .now in
-    let count = listed-numbers s (start .pre .0) .0 in
+    let count = listed-length s (start .pre .0) in
     o .inv .2 ∙ lines-done (numbersIn s) (o .i) (omega (arith, c .loop-test .left))
 
 pub listed-counts-spec : {M : Type 1} → statement M

@@ -26,6 +26,9 @@ put-decimal-below t =
 abbrev calls : ℕ → put-decimal-lts.Claims
 calls t = (digit-reads.Asked, digit-reads.Learnt, put-decimal-below t, put-decimal.Post)
 
+abbrev Start : ℕ → Type 0
+Start t = put-decimal-lts.Start (calls t) (put-decimal-at t) put-decimal.Post
+
 slice-write-out : (t : ℕ) → put-decimal-lts.Need-slice-write-out (calls t) (put-decimal-at t) put-decimal.Post
 slice-write-out t c = let a = c .before .before .before .args in omega (arith, one-length (a .n) (c .before .if1 .taken))
 
@@ -41,20 +44,23 @@ put-decimal-requires t c κs = let a = c .before .before .before .args in
     (omega arith, omega (arith, more-length (a .n) (c .before .if1 .left) (search needs)))
 
 slice-write-out-2 : (t : ℕ) → put-decimal-lts.Need-slice-write-out-2 (calls t) (put-decimal-at t) put-decimal.Post
-slice-write-out-2 t c = let a = c .before .before .before .before .before .before .before .args in
+slice-write-out-2 t c = let start : Start t = search in
+    let a = start .args in
     let f = c .before .before .before .put-decimal in
     omega (arith, more-length (a .n) (c .before .before .before .before .before .if1 .left) (search needs), f .kept .0, f .ensures .1)
 
 add-result-2 : (t : ℕ) → put-decimal-lts.Need-add-result-2 (calls t) (put-decimal-at t) put-decimal.Post
-add-result-2 t c = let a = c .before .before .before .before .before .before .before .args in
+add-result-2 t c = let start : Start t = search in
+    let a = start .args in
     let f = c .before .before .before .put-decimal in
     record { fits = omega (arith, more-length (a .n) (c .before .before .before .before .before .if1 .left) (search needs), f .ensures .1) }
 
 returns-2 : (t : ℕ) → put-decimal-lts.Need-returns-2 (calls t) (put-decimal-at t) put-decimal.Post
-returns-2 t c = let a = c .before .before .before .before .before .before .before .args in
+returns-2 t c = let start : Start t = search in
+    let a = start .args in
     let f = c .before .before .before .put-decimal in
     let h = c .before .before .before .before .before .if1 .left in
-    (more-written (a .out .now) (f .last .0) (a .at) (f .result) (a .n) (c .digit2 .result) h (search needs) (c .before .before .before .before .before .before .before .pre .1) (f .ensures .0) (f .ensures .1) (c .digit2 .ensures), omega (arith, more-length (a .n) h (search needs), f .ensures .1))
+    (more-written (a .out .now) (f .last .0) (a .at) (f .result) (a .n) (c .digit2 .result) h (search needs) (start .pre .1) (f .ensures .0) (f .ensures .1) (c .digit2 .ensures), omega (arith, more-length (a .n) h (search needs), f .ensures .1))
 
 pub +put-decimal-spec : {M : Type 1} → statement M
 +put-decimal-spec =

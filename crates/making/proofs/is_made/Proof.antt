@@ -22,10 +22,11 @@ returns-3 c = sym (made-parts _ _ _ (c .before .before .before .before .before .
 
 returns-4 : tie.Need-returns-4
 returns-4 c =
-    let a = c .before .before .before .before .before .before .before .before .before .before .args in
-    let digits = rw (rest (a .uid .now) _) at (c .before .before .before .before .before .is-decimal .ensures) in
+    let start : tie.Start = search in
+    let told : tie.After-is-decimal = search in
+    let digits = rw (rest (start .args .uid .now) _) at (told .is-decimal .ensures) in
     let root = simp unary-clauses at (c .same-bytes .ensures) in
-    sym (made-parts _ _ _ (c .before .before .before .before .before .before .before .if1 .left) ∙ simp (← digits, not-false (c .before .before .before .before .before .is-decimal .result) (c .before .before .before .before .if2 .left), eq-eqb _ _ (c .before .before .if3 .left), both-only, ← root))
+    sym (made-parts _ _ _ (told .before .before .if1 .left) ∙ simp (← digits, not-false (told .is-decimal .result) (c .before .before .before .before .if2 .left), eq-eqb _ _ (c .before .before .if3 .left), both-only, ← root))
 
 pub is-made-spec : {M : Type 1} → statement M
 is-made-spec =

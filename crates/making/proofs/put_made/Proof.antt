@@ -9,14 +9,15 @@ use Rattle.making.proofs.put_made.Statement.{statement}
 use Rattle.making.proofs.put_made.Tie as tie
 
 put-decimal-requires : tie.Need-put-decimal-requires
-put-decimal-requires c κs = let start = c .before .before .before .before .before .before .before in
+put-decimal-requires c κs = let start : tie.Start = search in
     rw length-set (omega (arith, decimal-length (start .args .serial), c .before .before .before .put .kept .0))
 
 same-length : tie.Need-same-length
 same-length c = c .before .before .put-decimal .kept .0 ∙ simp length-set (c .before .before .before .before .before .before .put .kept .0)
 
 returns : tie.Need-returns
-returns c = let a = c .before .before .before .before .before .before .before .before .before .before .args in
+returns c = let start : tie.Start = search in
+    let a = start .args in
     let front = c .before .before .before .before .before .before .put in
     let digits = c .before .before .put-decimal in (
       made-written (a .out .now) (front .last .0) (digits .last .0) (a .root .now) (a .at) (a .serial) (search needs) (front .ensures) (digits .ensures .0),

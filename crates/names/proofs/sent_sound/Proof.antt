@@ -20,11 +20,17 @@ returns-3 c = simp (le-leb _ _ (c .before .before .before .before .before .if1 .
 
 returns-4 : tie.Need-returns-4
 unfolding every rootOf
-returns-4 c = simp (le-leb _ _ (c .before .before .before .before .before .before .before .before .before .before .before .if1 .left), le-leb _ _ (c .before .before .before .before .before .before .before .before .before .before .if2 .left), ← (c .before .before .before .before .before .before .before .begins-uid .ensures), not-false (c .before .before .before .before .before .before .before .begins-uid .result) (c .before .before .before .before .before .before .if3 .left), ← (c .before .rooted .ensures), c .if4 .taken, both-only)
+returns-4 c =
+    let after-begins-uid : tie.After-begins-uid = search in
+    let else2 : tie.Else2 = search in
+    simp (le-leb _ _ (else2 .before .if1 .left), le-leb _ _ (else2 .if2 .left), ← (after-begins-uid .begins-uid .ensures), not-false (after-begins-uid .begins-uid .result) (c .before .before .before .before .before .before .if3 .left), ← (c .before .rooted .ensures), c .if4 .taken, both-only)
 
 returns-5 : tie.Need-returns-5
 unfolding every rootOf
-returns-5 c = simp (le-leb _ _ (c .before .before .before .before .before .before .before .before .before .before .before .before .before .if1 .left), le-leb _ _ (c .before .before .before .before .before .before .before .before .before .before .before .before .if2 .left), ← (c .before .before .before .before .before .before .before .before .before .begins-uid .ensures), not-false (c .before .before .before .before .before .before .before .before .before .begins-uid .result) (c .before .before .before .before .before .before .before .before .if3 .left), ← (c .before .before .before .rooted .ensures), c .before .before .if4 .left, ← (c .zeros-from .ensures), both-only)
+returns-5 c =
+    let else3 : tie.Else3 = search in
+    let else2 : tie.Else2 = search in
+    simp (le-leb _ _ (else2 .before .if1 .left), le-leb _ _ (else2 .if2 .left), ← (else3 .before .begins-uid .ensures), not-false (else3 .before .begins-uid .result) (else3 .if3 .left), ← (c .before .before .before .rooted .ensures), c .before .before .if4 .left, ← (c .zeros-from .ensures), both-only)
 
 pub sent-sound-spec : {M : Type 1} → statement M
 sent-sound-spec =

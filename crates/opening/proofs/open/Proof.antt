@@ -1,37 +1,48 @@
 use mathlib.Core.Path.{sym, _∙_}
-use Rattle.opening.proofs.Answers.{open-short, open-unsound, open-refused, open-done, open-fits}
+use denote.Ref.{now}
+use Rattle.soundness.proofs.Records.{Found, found, found-long}
+use Rattle.opening.proofs.Answers.{open-unread, open-refused, open-done, open-fits}
 use borrow.Author.Needs.{needs}
 use Rattle.opening.proofs.open.Statement.{statement}
 use Rattle.opening.proofs.open.Tie as tie
 
+abbrev start : tie.After-unpack-checked → tie.Start
+start c = c .before .before .before .before
+
+-- the records are accepted
+accepted : (c : tie.Else1) → Found (now (start (c .before .before) .args .records)) (c .before .before .unpack-checked .result .state)
+accepted c = found (c .before .before .unpack-checked .ensures) (c .if1 .left)
+
 returns : tie.Need-returns
-returns c = open-short _ _ (c .if1 .taken)
+returns c = open-unread _ _ _ (c .before .before .unpack-checked .ensures .0) (c .if1 .taken)
 
 returns-2 : tie.Need-returns-2
-returns-2 c = open-unsound _ _ _ _ (c .before .before .state-at .ensures) (c .before .state-sound .ensures) (c .before .before .before .before .if1 .left) (c .if2 .taken)
-
-returns-3 : tie.Need-returns-3
-returns-3 c = open-refused _ _ _ _ (c .before .before .before .before .before .state-at .ensures) (c .before .before .before .before .state-sound .ensures) (c .before .before .before .before .before .before .before .if1 .left) (c .before .before .before .if2 .left) _ (c .before .open-refusal .ensures) (c .if3 .taken)
+returns-2 c = let k : tie.Else1 = search in open-refused (accepted k) _ _ (c .before .open-refusal .ensures) (c .if2 .taken)
 
 opened-requires : tie.Need-opened-requires
-opened-requires c κs = open-fits (c .before .before .before .before .before .state-at .result .core) _ _ _ (sym (c .before .open-refusal .ensures) ∙ c .if3 .left)
+opened-requires c κs = let k : tie.After-unpack-checked = search in open-fits (k .unpack-checked .result .state .core) _ _ _ (sym (c .before .open-refusal .ensures) ∙ c .if2 .left)
 
-returns-4 : tie.Need-returns-4
-returns-4 c = rw (c .before .before .put-core .ensures, c .before .before .before .before .opened .ensures) (open-done _ _ _ _ (c .before .before .before .before .before .before .before .before .before .before .state-at .ensures) (c .before .before .before .before .before .before .before .before .before .state-sound .ensures) (c .before .before .before .before .before .before .before .before .before .before .before .before .if1 .left) (c .before .before .before .before .before .before .before .before .if2 .left) (sym (c .before .before .before .before .before .before .open-refusal .ensures) ∙ c .before .before .before .before .before .if3 .left))
+put-core-requires : tie.Need-put-core-requires
+put-core-requires c κs = let k : tie.Else1 = search in found-long (accepted k)
+
+returns-3 : tie.Need-returns-3
+returns-3 c =
+    let k : tie.Else1 = search in
+    let kept : tie.Else2 = search in
+    let now-open : tie.After-opened = search in
+    rw (c .before .before .put-core .ensures, now-open .opened .ensures) (open-done (accepted k) _ (sym (kept .before .open-refusal .ensures) ∙ kept .if2 .left))
 
 pub open-spec : {M : Type 1} → statement M
 open-spec =
     tie.close
     (tie.spec
-    returns
     (λ c κs. search needs)
+    (λ c. search needs)
+    returns
     (λ c κs. search needs)
     (λ c. search needs)
     returns-2
-    (λ c κs. search needs)
-    (λ c. search needs)
-    returns-3
     opened-requires
-    (λ c κs. search needs)
+    put-core-requires
     (λ c. search needs)
-    returns-4)
+    returns-3)

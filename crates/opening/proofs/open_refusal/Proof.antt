@@ -13,10 +13,20 @@ returns-3 : tie.Need-returns-3
 returns-3 c = simp (← (c .before .before .before .before .before .message-wrong .ensures), c .before .before .before .before .if1 .left, ← (c .before .before .before .context-bad .ensures), c .before .before .if2 .left, ← (c .before .syntax-bad .ensures), c .if3 .taken)
 
 returns-4 : tie.Need-returns-4
-returns-4 c = simp (← (c .before .before .before .before .before .before .before .before .message-wrong .ensures), c .before .before .before .before .before .before .before .if1 .left, ← (c .before .before .before .before .before .before .context-bad .ensures), c .before .before .before .before .before .if2 .left, ← (c .before .before .before .before .syntax-bad .ensures), c .before .before .before .if3 .left) (simp (ne-eqb _ _ (c .if4 .taken)))
+returns-4 c =
+    let one : tie.Else1 = search in
+    let two : tie.Else2 = search in
+    let three : tie.Else3 = search in
+    simp (← (one .before .message-wrong .ensures), one .if1 .left, ← (two .before .context-bad .ensures), two .if2 .left, ← (three .before .syntax-bad .ensures), three .if3 .left)
+    (simp (ne-eqb _ _ (c .if4 .taken)))
 
 returns-5 : tie.Need-returns-5
-returns-5 c = simp (← (c .before .before .before .before .before .before .before .before .message-wrong .ensures), c .before .before .before .before .before .before .before .if1 .left, ← (c .before .before .before .before .before .before .context-bad .ensures), c .before .before .before .before .before .if2 .left, ← (c .before .before .before .before .syntax-bad .ensures), c .before .before .before .if3 .left) (simp (eq-eqb _ _ (c .if4 .left)))
+returns-5 c =
+    let one : tie.Else1 = search in
+    let two : tie.Else2 = search in
+    let three : tie.Else3 = search in
+    simp (← (one .before .message-wrong .ensures), one .if1 .left, ← (two .before .context-bad .ensures), two .if2 .left, ← (three .before .syntax-bad .ensures), three .if3 .left)
+    (simp (eq-eqb _ _ (c .if4 .left)))
 
 pub open-refusal-spec : {M : Type 1} → statement M
 open-refusal-spec =

@@ -1,10 +1,10 @@
-use Rattle.rules.specs.Layout.{boxFormat, pictureFormat}
+use Rattle.rules.specs.Layout.{boxFormat}
 use borrow.Author.Needs.{needs}
 use Rattle.records.proofs.image_box_at.Statement.{statement}
 use Rattle.records.proofs.image_box_at.Tie as tie
 
 returns : tie.Need-returns
-unfolding boxFormat pictureFormat
+unfolding boxFormat
 returns c = simp (c .picture-at .ensures)
 
 pub image-box-at-spec : {M : Type 1} → statement M

@@ -1,12 +1,13 @@
 use denote.Ref.{now}
-use Rattle.rules.specs.Layout.{coreFormat, numbersFormat, sessionFormat, nameFormat, serialFormat, shelfFormat, filmFormat, layoutFormat, boxFormat, pictureFormat, queueFormat, entryFormat, openedFormat}
-use Rattle.records.proofs.Steps.{core-steps}
+use Rattle.rules.specs.Layout.{coreFormat}
+use Rattle.rules.proofs.Sizes.{core-size}
+use Rattle.rules.proofs.Steps.{core-steps}
 use borrow.Author.Needs.{needs}
 use Rattle.records.proofs.put_core.Statement.{statement}
 use Rattle.records.proofs.put_core.Tie as tie
 
 returns : tie.Need-returns
-unfolding coreFormat numbersFormat sessionFormat nameFormat serialFormat shelfFormat filmFormat layoutFormat boxFormat pictureFormat queueFormat entryFormat openedFormat core-steps
+unfolding coreFormat core-steps
 returns c =
     let opened = c .before .before in
     let queue = opened .before .before .before .before .before in
@@ -15,7 +16,7 @@ returns c =
     let numbers = session .before .before .before .before .before in
     let start = numbers .before .before .before .before in
     let a = start .args in
-    rw (core-steps .same (a .x) (now (a .s)) (a .p) (start .pre), opened .put-opened .ensures, queue .put-queue .ensures, shelf .put-shelf .ensures, session .put-session .ensures, numbers .put-numbers .ensures)
+    rw (core-steps .same (a .x) (now (a .s)) (a .p) (rw core-size (start .pre)), opened .put-opened .ensures, queue .put-queue .ensures, shelf .put-shelf .ensures, session .put-session .ensures, numbers .put-numbers .ensures)
 
 pub put-core-spec : {M : Type 1} → statement M
 put-core-spec =

@@ -4,32 +4,36 @@ use denote.Ref.{now}
 use lib.ListN.{length}
 use Rattle.fields.specs.Format.{write, array}
 use Rattle.fields.proofs.Turns.{write-none, write-turn, write-done}
-use Rattle.rules.specs.Layout.{entryFormat, pictureFormat, nameFormat, serialFormat}
-use Rattle.records.proofs.Steps.{entry-steps}
+use Rattle.rules.specs.Bounds.{mostEntries}
+use Rattle.rules.specs.Layout.{entryFormat, nameFormat, serialFormat}
+use Rattle.rules.proofs.Sizes.{entry-size}
+use Rattle.rules.proofs.Steps.{entry-steps}
 use borrow.Author.Needs.{needs}
 use Rattle.records.proofs.put_entries.Statement.{statement}
 use Rattle.records.proofs.put_entries.Tie as tie
 
 abbrev Inv-loop : tie.InvT-loop
-Inv-loop s₀ p xs i₀ s i = (i ≤ 16) × (length s ≡ length s₀) × (s ≡ write (array i entryFormat) xs s₀ p)
+Inv-loop s₀ p xs i₀ s i = (i ≤ mostEntries) × (length s ≡ length s₀) × (s ≡ write (array i entryFormat) xs s₀ p)
 
 abbrev μ-loop : tie.MeasureT-loop
-μ-loop s₀ p xs i₀ s i = 16 - i
+μ-loop s₀ p xs i₀ s i = mostEntries - i
 
 loop-holds : tie.Need-loop-holds Inv-loop μ-loop
 loop-holds c = let a = c .before .args in
     (search needs, refl, write-none entryFormat (now (a .s)) (a .p) (a .a))
 
 loop-again : tie.Need-loop-again Inv-loop μ-loop
-unfolding entryFormat pictureFormat nameFormat serialFormat
-loop-again c = let o = c .before .before .before .before .before .before .loop in
-    let a = c .before .before .before .before .before .before .before .before .args in
-    (search needs, search needs, write-turn (entry-steps .laws) (now (a .s)) (o .s) (c .before .before .put-entry .last .0) (a .p) (o .i) (a .a) (search needs) (c .before .before .put-entry .ensures) (o .inv .2))
+unfolding entryFormat nameFormat serialFormat
+loop-again c =
+    let turn = c .before .before .before .before .before .before in
+    let o = turn .loop in
+    let a = turn .before .before .args in
+    (search needs, search needs, write-turn (entry-steps .laws) entry-size (now (a .s)) (o .s) (c .before .before .put-entry .last .0) (a .p) (o .i) (a .a) (search needs) (c .before .before .put-entry .ensures) (o .inv .2))
 
 returns : tie.Need-returns Inv-loop μ-loop
 returns c = let o = c .before .loop in
     let a = c .before .before .before .args in
-    write-done entryFormat (now (a .s)) (o .s) (a .p) 16 (o .i) (a .a) (c .loop-test .left) (o .inv .0) (o .inv .2)
+    write-done entryFormat (now (a .s)) (o .s) (a .p) mostEntries (o .i) (a .a) (c .loop-test .left) (o .inv .0) (o .inv .2)
 
 pub put-entries-spec : {M : Type 1} → statement M
 put-entries-spec =

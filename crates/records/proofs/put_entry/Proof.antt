@@ -1,12 +1,13 @@
 use denote.Ref.{now}
-use Rattle.rules.specs.Layout.{entryFormat, pictureFormat, nameFormat, serialFormat}
-use Rattle.records.proofs.Steps.{entry-steps}
+use Rattle.rules.specs.Layout.{entryFormat}
+use Rattle.rules.proofs.Sizes.{entry-size}
+use Rattle.rules.proofs.Steps.{entry-steps}
 use borrow.Author.Needs.{needs}
 use Rattle.records.proofs.put_entry.Statement.{statement}
 use Rattle.records.proofs.put_entry.Tie as tie
 
 returns : tie.Need-returns
-unfolding entryFormat pictureFormat nameFormat serialFormat entry-steps
+unfolding entryFormat entry-steps
 returns c =
     let film = c .before .before in
     let copies = film .before .before .before .before .before in
@@ -14,7 +15,7 @@ returns c =
     let pictures = ticket .before .before .before .before .before in
     let start = pictures .before .before .before .before in
     let a = start .args in
-    rw (entry-steps .same (a .x) (now (a .s)) (a .p) (start .pre), film .put-name .ensures, copies .put-byte .ensures, ticket .put-number .ensures, pictures .put-pictures .ensures)
+    rw (entry-steps .same (a .x) (now (a .s)) (a .p) (rw entry-size (start .pre)), film .put-name .ensures, copies .put-byte .ensures, ticket .put-number .ensures, pictures .put-pictures .ensures)
 
 pub put-entry-spec : {M : Type 1} → statement M
 put-entry-spec =

@@ -1,12 +1,13 @@
 use denote.Ref.{now}
-use Rattle.rules.specs.Layout.{filmFormat, nameFormat, serialFormat, layoutFormat, boxFormat, pictureFormat}
-use Rattle.records.proofs.Steps.{film-steps}
+use Rattle.rules.specs.Layout.{filmFormat}
+use Rattle.rules.proofs.Sizes.{film-size}
+use Rattle.rules.proofs.Steps.{film-steps}
 use borrow.Author.Needs.{needs}
 use Rattle.records.proofs.put_film.Statement.{statement}
 use Rattle.records.proofs.put_film.Tie as tie
 
 returns : tie.Need-returns
-unfolding filmFormat nameFormat serialFormat layoutFormat boxFormat pictureFormat film-steps
+unfolding filmFormat film-steps
 returns c =
     let boxes = c .before .before in
     let first = boxes .before .before .before .before .before in
@@ -16,7 +17,7 @@ returns c =
     let name = layout .before .before .before .before .before in
     let start = name .before .before .before .before in
     let a = start .args in
-    rw (film-steps .same (a .x) (now (a .s)) (a .p) (start .pre), boxes .put-boxes .ensures, first .put-serial .ensures, magnification .put-byte2 .ensures, orientation .put-byte .ensures, layout .put-layout .ensures, name .put-name .ensures)
+    rw (film-steps .same (a .x) (now (a .s)) (a .p) (rw film-size (start .pre)), boxes .put-boxes .ensures, first .put-serial .ensures, magnification .put-byte2 .ensures, orientation .put-byte .ensures, layout .put-layout .ensures, name .put-name .ensures)
 
 pub put-film-spec : {M : Type 1} → statement M
 put-film-spec =

@@ -4,32 +4,36 @@ use denote.Ref.{now}
 use lib.ListN.{length}
 use Rattle.fields.specs.Format.{write, array}
 use Rattle.fields.proofs.Turns.{write-none, write-turn, write-done}
-use Rattle.rules.specs.Layout.{filmFormat, nameFormat, serialFormat, layoutFormat, boxFormat, pictureFormat}
-use Rattle.records.proofs.Steps.{film-steps}
+use Rattle.rules.specs.Bounds.{mostFilms}
+use Rattle.rules.specs.Layout.{filmFormat, nameFormat, layoutFormat, serialFormat}
+use Rattle.rules.proofs.Sizes.{film-size}
+use Rattle.rules.proofs.Steps.{film-steps}
 use borrow.Author.Needs.{needs}
 use Rattle.records.proofs.put_films.Statement.{statement}
 use Rattle.records.proofs.put_films.Tie as tie
 
 abbrev Inv-loop : tie.InvT-loop
-Inv-loop s₀ p xs i₀ s i = (i ≤ 8) × (length s ≡ length s₀) × (s ≡ write (array i filmFormat) xs s₀ p)
+Inv-loop s₀ p xs i₀ s i = (i ≤ mostFilms) × (length s ≡ length s₀) × (s ≡ write (array i filmFormat) xs s₀ p)
 
 abbrev μ-loop : tie.MeasureT-loop
-μ-loop s₀ p xs i₀ s i = 8 - i
+μ-loop s₀ p xs i₀ s i = mostFilms - i
 
 loop-holds : tie.Need-loop-holds Inv-loop μ-loop
 loop-holds c = let a = c .before .args in
     (search needs, refl, write-none filmFormat (now (a .s)) (a .p) (a .a))
 
 loop-again : tie.Need-loop-again Inv-loop μ-loop
-unfolding filmFormat nameFormat serialFormat layoutFormat boxFormat pictureFormat
-loop-again c = let o = c .before .before .before .before .before .before .loop in
-    let a = c .before .before .before .before .before .before .before .before .args in
-    (search needs, search needs, write-turn (film-steps .laws) (now (a .s)) (o .s) (c .before .before .put-film .last .0) (a .p) (o .i) (a .a) (search needs) (c .before .before .put-film .ensures) (o .inv .2))
+unfolding filmFormat nameFormat layoutFormat serialFormat
+loop-again c =
+    let turn = c .before .before .before .before .before .before in
+    let o = turn .loop in
+    let a = turn .before .before .args in
+    (search needs, search needs, write-turn (film-steps .laws) film-size (now (a .s)) (o .s) (c .before .before .put-film .last .0) (a .p) (o .i) (a .a) (search needs) (c .before .before .put-film .ensures) (o .inv .2))
 
 returns : tie.Need-returns Inv-loop μ-loop
 returns c = let o = c .before .loop in
     let a = c .before .before .before .args in
-    write-done filmFormat (now (a .s)) (o .s) (a .p) 8 (o .i) (a .a) (c .loop-test .left) (o .inv .0) (o .inv .2)
+    write-done filmFormat (now (a .s)) (o .s) (a .p) mostFilms (o .i) (a .a) (c .loop-test .left) (o .inv .0) (o .inv .2)
 
 pub put-films-spec : {M : Type 1} → statement M
 put-films-spec =

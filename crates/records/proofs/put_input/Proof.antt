@@ -1,6 +1,6 @@
 use denote.Ref.{now}
 use Rattle.rules.specs.Layout.{inputFormat}
-use Rattle.records.proofs.Steps.{input-steps}
+use Rattle.rules.proofs.Steps.{input-steps}
 use borrow.Author.Needs.{needs}
 use Rattle.records.proofs.put_input.Statement.{statement}
 use Rattle.records.proofs.put_input.Tie as tie

@@ -1,6 +1,6 @@
 use denote.Ref.{now}
 use Rattle.rules.specs.Layout.{numbersFormat}
-use Rattle.records.proofs.Steps.{numbers-steps}
+use Rattle.rules.proofs.Steps.{numbers-steps}
 use borrow.Author.Needs.{needs}
 use Rattle.records.proofs.put_numbers.Statement.{statement}
 use Rattle.records.proofs.put_numbers.Tie as tie

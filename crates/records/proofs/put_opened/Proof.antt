@@ -1,6 +1,6 @@
 use denote.Ref.{now}
 use Rattle.rules.specs.Layout.{openedFormat}
-use Rattle.records.proofs.Steps.{opened-steps}
+use Rattle.rules.proofs.Steps.{opened-steps}
 use borrow.Author.Needs.{needs}
 use Rattle.records.proofs.put_opened.Statement.{statement}
 use Rattle.records.proofs.put_opened.Tie as tie

@@ -1,6 +1,6 @@
 use denote.Ref.{now}
 use Rattle.rules.specs.Layout.{pictureFormat}
-use Rattle.records.proofs.Steps.{picture-steps}
+use Rattle.rules.proofs.Steps.{picture-steps}
 use borrow.Author.Needs.{needs}
 use Rattle.records.proofs.put_picture.Statement.{statement}
 use Rattle.records.proofs.put_picture.Tie as tie

@@ -4,17 +4,19 @@ use denote.Ref.{now}
 use lib.ListN.{length}
 use Rattle.fields.specs.Format.{write, array}
 use Rattle.fields.proofs.Turns.{write-none, write-turn, write-done}
+use Rattle.rules.specs.Bounds.{mostBoxes}
 use Rattle.rules.specs.Layout.{pictureFormat}
-use Rattle.records.proofs.Steps.{picture-steps}
+use Rattle.rules.proofs.Sizes.{picture-size}
+use Rattle.rules.proofs.Steps.{picture-steps}
 use borrow.Author.Needs.{needs}
 use Rattle.records.proofs.put_pictures.Statement.{statement}
 use Rattle.records.proofs.put_pictures.Tie as tie
 
 abbrev Inv-loop : tie.InvT-loop
-Inv-loop s₀ p xs i₀ s i = (i ≤ 36) × (length s ≡ length s₀) × (s ≡ write (array i pictureFormat) xs s₀ p)
+Inv-loop s₀ p xs i₀ s i = (i ≤ mostBoxes) × (length s ≡ length s₀) × (s ≡ write (array i pictureFormat) xs s₀ p)
 
 abbrev μ-loop : tie.MeasureT-loop
-μ-loop s₀ p xs i₀ s i = 36 - i
+μ-loop s₀ p xs i₀ s i = mostBoxes - i
 
 loop-holds : tie.Need-loop-holds Inv-loop μ-loop
 loop-holds c = let a = c .before .args in
@@ -22,14 +24,16 @@ loop-holds c = let a = c .before .args in
 
 loop-again : tie.Need-loop-again Inv-loop μ-loop
 unfolding pictureFormat
-loop-again c = let o = c .before .before .before .before .before .before .loop in
-    let a = c .before .before .before .before .before .before .before .before .args in
-    (search needs, search needs, write-turn (picture-steps .laws) (now (a .s)) (o .s) (c .before .before .put-picture .last .0) (a .p) (o .i) (a .a) (search needs) (c .before .before .put-picture .ensures) (o .inv .2))
+loop-again c =
+    let turn = c .before .before .before .before .before .before in
+    let o = turn .loop in
+    let a = turn .before .before .args in
+    (search needs, search needs, write-turn (picture-steps .laws) picture-size (now (a .s)) (o .s) (c .before .before .put-picture .last .0) (a .p) (o .i) (a .a) (search needs) (c .before .before .put-picture .ensures) (o .inv .2))
 
 returns : tie.Need-returns Inv-loop μ-loop
 returns c = let o = c .before .loop in
     let a = c .before .before .before .args in
-    write-done pictureFormat (now (a .s)) (o .s) (a .p) 36 (o .i) (a .a) (c .loop-test .left) (o .inv .0) (o .inv .2)
+    write-done pictureFormat (now (a .s)) (o .s) (a .p) mostBoxes (o .i) (a .a) (c .loop-test .left) (o .inv .0) (o .inv .2)
 
 pub put-pictures-spec : {M : Type 1} → statement M
 put-pictures-spec =

@@ -1,6 +1,6 @@
 use denote.Ref.{now}
 use Rattle.rules.specs.Layout.{serialFormat}
-use Rattle.records.proofs.Steps.{serial-steps}
+use Rattle.rules.proofs.Steps.{serial-steps}
 use borrow.Author.Needs.{needs}
 use Rattle.records.proofs.put_serial.Statement.{statement}
 use Rattle.records.proofs.put_serial.Tie as tie

@@ -1,10 +1,10 @@
-use Rattle.rules.specs.Layout.{queueFormat, entryFormat, pictureFormat, nameFormat, serialFormat}
+use Rattle.rules.specs.Layout.{queueFormat}
 use borrow.Author.Needs.{needs}
 use Rattle.records.proofs.queue_at.Statement.{statement}
 use Rattle.records.proofs.queue_at.Tie as tie
 
 returns : tie.Need-returns
-unfolding queueFormat entryFormat pictureFormat nameFormat serialFormat
+unfolding queueFormat
 returns c = simp (c .entries-at .ensures)
 
 pub queue-at-spec : {M : Type 1} → statement M

@@ -1,10 +1,10 @@
-use Rattle.rules.specs.Layout.{shelfFormat, filmFormat, nameFormat, serialFormat, layoutFormat, boxFormat, pictureFormat}
+use Rattle.rules.specs.Layout.{shelfFormat}
 use borrow.Author.Needs.{needs}
 use Rattle.records.proofs.shelf_at.Statement.{statement}
 use Rattle.records.proofs.shelf_at.Tie as tie
 
 returns : tie.Need-returns
-unfolding shelfFormat filmFormat nameFormat serialFormat layoutFormat boxFormat pictureFormat
+unfolding shelfFormat
 returns c = simp (c .films-at .ensures)
 
 pub shelf-at-spec : {M : Type 1} → statement M

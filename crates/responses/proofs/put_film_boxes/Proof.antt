@@ -9,14 +9,19 @@ use Rattle.responses.proofs.put_film_boxes.Statement.{statement}
 use Rattle.responses.proofs.put_film_boxes.Tie as tie
 
 put-header-requires : tie.Need-put-header-requires
-put-header-requires c κs = let a = c .before .before .before .before .before .before .before .before .args in
-    omega (arith, header-length (a .explicit) 0x2010_0510 SQ (c .before .before .before .put-boxes .result - c .before .before .before .before .before .sequence-header .result))
+put-header-requires c κs =
+    let start : tie.Start = search in
+    let a = start .args in
+    omega (arith, header-length (a .syntax) 0x2010_0510 SQ (c .before .before .before .put-boxes .result - c .before .before .before .before .before .sequence-header .result))
 
 returns : tie.Need-returns
-returns c = let a = c .before .before .before .before .before .before .before .before .before .before .before .args in
-    let start = c .before .before .before .before .before .before .before .before .sequence-header in
+returns c =
+    let after-sequence-header : tie.After-sequence-header = search in
+    let start : tie.Start = search in
+    let a = start .args in
+    let header = after-sequence-header .sequence-header in
     let boxes = c .before .before .before .before .before .before .put-boxes in
-    film-laid (a .explicit) (now (a .root)) (now (a .out)) _ _ (a .first) (a .count) (start .result) (boxes .result) (omega arith) (start .ensures .0) (start .ensures .1) (boxes .ensures .0) (boxes .ensures .1) (c .before .before .put-header .ensures .0)
+    film-laid (a .syntax) (now (a .root)) (now (a .out)) _ _ (a .first) (a .count) (header .result) (boxes .result) (omega arith) (header .ensures .0) (header .ensures .1) (boxes .ensures .0) (boxes .ensures .1) (c .before .before .put-header .ensures .0)
 
 pub put-film-boxes-spec : {M : Type 1} → statement M
 put-film-boxes-spec =

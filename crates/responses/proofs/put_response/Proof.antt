@@ -9,8 +9,11 @@ put-ul-requires : tie.Need-put-ul-requires
 put-ul-requires c κs = rw group-length-size (omega arith)
 
 returns : tie.Need-returns
-returns c = let a = c .before .before .before .before .before .before .before .before .before .before .before .before .before .before .before .args in
-    let first = c .before .before .before .before .before .before .before .before .before .before .put-said-first in
+returns c =
+    let after-put-said-first : tie.After-put-said-first = search in
+    let start : tie.Start = search in
+    let a = start .args in
+    let first = after-put-said-first .put-said-first in
     let then = c .before .before .before .before .before .before .put-said-then in
     response-laid (now (a .class)) (a .field) (a .message) (a .with-data) (a .status) (now (a .instance)) (a .acts) (a .kind) (now (a .out)) _ _ _ (first .result) (then .result) (omega arith)
     (first .ensures .0) (first .ensures .1) (first .ensures .2) (then .ensures .0) (then .ensures .1) (then .ensures .2) (c .before .before .put-ul .ensures .0)

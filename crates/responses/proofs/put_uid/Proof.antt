@@ -18,7 +18,9 @@ unfolding headerSize
 put-element-requires c κs = rw element-length (omega arith)
 
 returns-2 : tie.Need-returns-2
-returns-2 c = let a = c .before .before .before .before .before .before .before .args in
+returns-2 c =
+    let start : tie.Start = search in
+    let a = start .args in
     let e = c .before .before .put-element .ensures in
     let l = uid-size (a .tag) (now (a .uid)) (omega arith) in
     rw (uid-some (a .tag) (now (a .uid)) (c .before .before .before .before .if1 .left)) (e .0, e .1, omega arith)

@@ -13,19 +13,19 @@ box-broken-requires c κs = let p = c .before .before .before .before .pre in (p
 
 returns : tie.Need-returns
 unfolding setPlan
-returns c = sym (ap (λ w. firstBroken (rulesFor (c .before .before .before .args .k) w (listingOf (c .before .before .before .args .d .now) (c .before .before .before .args .explicit)))) (c .enum-told .given .1))
+returns c = sym (ap (λ w. firstBroken (rulesFor (c .before .before .before .args .k) w (listingOf (c .before .before .before .args .d .now) (c .before .before .before .args .syntax)))) (c .enum-told .given .1))
 
 returns-2 : tie.Need-returns-2
 unfolding setPlan
-returns-2 c = c .session-broken .ensures ∙ sym (ap (λ w. firstBroken (rulesFor (c .before .before .before .before .args .k) w (listingOf (c .before .before .before .before .args .d .now) (c .before .before .before .before .args .explicit)))) (c .before .enum-told2 .given .1))
+returns-2 c = c .session-broken .ensures ∙ sym (ap (λ w. firstBroken (rulesFor (c .before .before .before .before .args .k) w (listingOf (c .before .before .before .before .args .d .now) (c .before .before .before .before .args .syntax)))) (c .before .enum-told2 .given .1))
 
 returns-3 : tie.Need-returns-3
 unfolding setPlan
-returns-3 c = c .film-set-broken .ensures ∙ sym (ap (λ w. firstBroken (rulesFor (c .before .before .before .before .before .args .k) w (listingOf (c .before .before .before .before .before .args .d .now) (c .before .before .before .before .before .args .explicit)))) (c .before .before .whom .given .1))
+returns-3 c = c .film-set-broken .ensures ∙ sym (ap (λ w. firstBroken (rulesFor (c .before .before .before .before .before .args .k) w (listingOf (c .before .before .before .before .before .args .d .now) (c .before .before .before .before .before .args .syntax)))) (c .before .before .whom .given .1))
 
 returns-4 : tie.Need-returns-4
 unfolding setPlan
-returns-4 c = c .box-broken .ensures ∙ sym (ap (λ w. firstBroken (rulesFor (c .before .before .before .before .before .args .k) w (listingOf (c .before .before .before .before .before .args .d .now) (c .before .before .before .before .before .args .explicit)))) (c .before .before .whom2 .given .1))
+returns-4 c = c .box-broken .ensures ∙ sym (ap (λ w. firstBroken (rulesFor (c .before .before .before .before .before .args .k) w (listingOf (c .before .before .before .before .before .args .d .now) (c .before .before .before .before .before .args .syntax)))) (c .before .before .whom2 .given .1))
 
 pub broken-spec : {M : Type 1} → statement M
 broken-spec =

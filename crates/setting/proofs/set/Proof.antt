@@ -3,11 +3,8 @@ use Rattle.setting.proofs.Laws.{sets, keeps-all}
 use Rattle.setting.proofs.set.Statement.{statement}
 use Rattle.setting.proofs.set.Tie as tie
 
-abbrev start : tie.Else1 → tie.Start
-start c = c .before .before .before .before .before .before
-
 returns-3 : tie.Need-returns-3
-returns-3 c = let k : tie.Else1 = search in search (keeps-all, k .before .target-broken .ensures, start k .pre .1 .1 .1)
+returns-3 c = let k : tie.Else1 = search in search (keeps-all, k .before .target-broken .ensures)
 
 pub set-spec : {M : Type 1} → statement M
 set-spec =
@@ -16,6 +13,7 @@ set-spec =
     (λ c κs. search needs)
     (λ c κs. search needs)
     (λ c. search sets)
+    (λ c κs. search needs)
     (λ c κs. search needs)
     (λ c κs. search needs)
     (λ c κs. search needs)

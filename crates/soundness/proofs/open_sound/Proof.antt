@@ -18,15 +18,23 @@ returns-3 c = simp (eq-eqb _ _ (c .before .before .before .before .if1 .left), l
 
 returns-4 : tie.Need-returns-4
 unfolding every
-returns-4 c = simp (eq-eqb _ _ (c .before .before .before .before .before .before .if1 .left), le-leb (c .before .before .before .before .before .before .before .before .args .o .context) 255 (search needs), le-leb _ _ (c .before .before .before .before .if2 .left), le-leb _ _ (c .before .before .if3 .left), lt-leb _ _ (c .if4 .taken))
+returns-4 c =
+    let start : tie.Start = search in
+    simp (eq-eqb _ _ (c .before .before .before .before .before .before .if1 .left), le-leb (start .args .o .context) 255 (search needs), le-leb _ _ (c .before .before .before .before .if2 .left), le-leb _ _ (c .before .before .if3 .left), lt-leb _ _ (c .if4 .taken))
 
 returns-5 : tie.Need-returns-5
 unfolding every
-returns-5 c = simp (eq-eqb _ _ (c .before .before .before .before .before .before .before .before .if1 .left), le-leb (c .before .before .before .before .before .before .before .before .before .before .args .o .context) 255 (search needs), le-leb _ _ (c .before .before .before .before .before .before .if2 .left), le-leb _ _ (c .before .before .before .before .if3 .left), le-leb _ _ (c .before .before .if4 .left), lt-leb _ _ (c .if5 .taken))
+returns-5 c =
+    let else1 : tie.Else1 = search in
+    let start : tie.Start = search in
+    simp (eq-eqb _ _ (else1 .if1 .left), le-leb (start .args .o .context) 255 (search needs), le-leb _ _ (c .before .before .before .before .before .before .if2 .left), le-leb _ _ (c .before .before .before .before .if3 .left), le-leb _ _ (c .before .before .if4 .left), lt-leb _ _ (c .if5 .taken))
 
 returns-6 : tie.Need-returns-6
 unfolding every
-returns-6 c = simp (eq-eqb _ _ (c .before .before .before .before .before .before .before .before .if1 .left), le-leb (c .before .before .before .before .before .before .before .before .before .before .args .o .context) 255 (search needs), le-leb _ _ (c .before .before .before .before .before .before .if2 .left), le-leb _ _ (c .before .before .before .before .if3 .left), le-leb _ _ (c .before .before .if4 .left), le-leb _ _ (c .if5 .left))
+returns-6 c =
+    let else1 : tie.Else1 = search in
+    let start : tie.Start = search in
+    simp (eq-eqb _ _ (else1 .if1 .left), le-leb (start .args .o .context) 255 (search needs), le-leb _ _ (c .before .before .before .before .before .before .if2 .left), le-leb _ _ (c .before .before .before .before .if3 .left), le-leb _ _ (c .before .before .if4 .left), le-leb _ _ (c .if5 .left))
 
 pub open-sound-spec : {M : Type 1} → statement M
 open-sound-spec =

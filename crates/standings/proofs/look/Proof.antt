@@ -15,7 +15,7 @@ returns c =
     let a = c .before .before .before .args in
     let s = a .d .now in
     let e = c .before .find .ensures in
-    let w = found-place (length s) (findAt s (a .explicit) (a .room) (a .inside) (a .tag)) _ _ (c .before .before .before .pre .1) (find-within s (a .explicit) (a .room) (a .inside) (a .tag) (c .before .before .before .pre .0)) in
+    let w = found-place (length s) (findAt s (a .scope) (a .tag)) _ _ (c .before .before .before .pre .1) (find-within s (a .scope) (a .tag) (c .before .before .before .pre .0)) in
     (c .seen .ensures .0 ∙ ap kindOf e, c .seen .ensures .1 ∙ ap placed e, subst (λ p. p .from ≤ p .stop) (sym (c .seen .ensures .1 ∙ ap placed e)) (w .0), subst (λ p. p .stop ≤ length s) (sym (c .seen .ensures .1 ∙ ap placed e)) (w .1))
 
 pub look-spec : {M : Type 1} → statement M

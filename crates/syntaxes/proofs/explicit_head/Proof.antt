@@ -19,20 +19,22 @@ returns-2 c =
 returns-3 : tie.Need-returns-3
 unfolding headAt sizeAt vrAt lengthAt vrWrong
 returns-3 c =
-    let o = c .before .before .before .before .before .before .before in
+    let o : tie.Start = search in
     simp (le-ltb (o .args .end - o .args .at) 8 (omega arith), ne-eqb _ _ (o .pre .2), ← (c .before .before .before .before .before .u16-at .ensures .0), ← (c .before .before .before .before .form-of .ensures), ne-eqb _ _ (c .before .before .before .if1 .left), ← (c .before .before .tag-at .ensures .0), le-ltb _ _ (c .before .if2 .left), eq-eqb _ _ (c .if3 .taken))
 
 returns-4 : tie.Need-returns-4
 unfolding headAt sizeAt vrAt lengthAt vrWrong
 returns-4 c =
-    let o = c .before .before .before .before .before .before .before .before .before in
-    simp (le-ltb (o .args .end - o .args .at) 8 (omega arith), ne-eqb _ _ (o .pre .2), ← (c .before .before .before .before .before .before .before .u16-at .ensures .0), ← (c .before .before .before .before .before .before .form-of .ensures), ne-eqb _ _ (c .before .before .before .before .before .if1 .left), ← (c .before .before .before .before .tag-at .ensures .0), le-ltb _ _ (c .before .before .before .if2 .left), ne-eqb _ _ (c .before .before .if3 .left), ← (c .before .vr-differs .ensures), c .if4 .taken)
+    let after-u16-at : tie.After-u16-at = search in
+    let o : tie.Start = search in
+    simp (le-ltb (o .args .end - o .args .at) 8 (omega arith), ne-eqb _ _ (o .pre .2), ← (after-u16-at .u16-at .ensures .0), ← (c .before .before .before .before .before .before .form-of .ensures), ne-eqb _ _ (c .before .before .before .before .before .if1 .left), ← (c .before .before .before .before .tag-at .ensures .0), le-ltb _ _ (c .before .before .before .if2 .left), ne-eqb _ _ (c .before .before .if3 .left), ← (c .before .vr-differs .ensures), c .if4 .taken)
 
 returns-5 : tie.Need-returns-5
 unfolding headAt sizeAt vrAt lengthAt vrWrong
 returns-5 c =
-    let o = c .before .before .before .before .before .before .before .before .before .before .before in
-    simp (le-ltb (o .args .end - o .args .at) 8 (omega arith), ne-eqb _ _ (o .pre .2), ← (c .before .before .before .before .before .before .before .before .before .u16-at .ensures .0), ← (c .before .before .before .before .before .before .before .before .form-of .ensures), ne-eqb _ _ (c .before .before .before .before .before .before .before .if1 .left), ← (c .before .before .before .before .before .before .tag-at .ensures .0), le-ltb _ _ (c .before .before .before .before .before .if2 .left), ne-eqb _ _ (c .before .before .before .before .if3 .left), ← (c .before .before .before .vr-differs .ensures), c .before .before .if4 .left, ← (c .before .u16-at2 .ensures .0), ← (c .length-head .ensures))
+    let else1 : tie.Else1 = search in
+    let o : tie.Start = search in
+    simp (le-ltb (o .args .end - o .args .at) 8 (omega arith), ne-eqb _ _ (o .pre .2), ← (else1 .before .before .u16-at .ensures .0), ← (else1 .before .form-of .ensures), ne-eqb _ _ (else1 .if1 .left), ← (c .before .before .before .before .before .before .tag-at .ensures .0), le-ltb _ _ (c .before .before .before .before .before .if2 .left), ne-eqb _ _ (c .before .before .before .before .if3 .left), ← (c .before .before .before .vr-differs .ensures), c .before .before .if4 .left, ← (c .before .u16-at2 .ensures .0), ← (c .length-head .ensures))
 
 pub explicit-head-spec : {M : Type 1} → statement M
 explicit-head-spec =

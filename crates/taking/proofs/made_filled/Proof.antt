@@ -4,7 +4,7 @@ use Rattle.taking.proofs.made_filled.Statement.{statement}
 use Rattle.taking.proofs.made_filled.Tie as tie
 
 returns : tie.Need-returns
-returns c = made-filled (c .before .before .before .before .before .before .before .args .n) _ _ (c .before .before .before .before .before .before .before .pre .0) (c .before .put-made .ensures .0)
+returns c = let o : tie.Start = search in made-filled (o .args .n) _ _ (o .pre .0) (c .before .put-made .ensures .0)
 
 pub made-filled-spec : {M : Type 1} → statement M
 made-filled-spec =

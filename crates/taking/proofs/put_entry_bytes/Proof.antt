@@ -4,13 +4,17 @@ use Rattle.taking.proofs.put_entry_bytes.Statement.{statement}
 use Rattle.taking.proofs.put_entry_bytes.Tie as tie
 
 returns : tie.Need-returns
-returns c = let a = c .before .before .before .before .before .before .before .before .before .before .before .before .before .before .before .before .before .before .before .before .before .before .before .args in
-    let p = c .before .before .before .before .before .before .before .before .before .before .before .before .before .before .before .before .before .before .before .before .before .before .before .pre in
-    entry-laid _ _ _ _ _ (a .n) (a .e) _ (p .0) (p .3)
-    (c .before .before .before .before .before .before .before .before .before .before .before .before .before .before .before .before .before .before .before .put-pictures .ensures)
-    (c .before .before .before .before .before .before .before .before .before .before .before .before .before .before .put-number .ensures)
-    (c .before .before .before .before .before .before .before .before .before .put-number2 .ensures)
-    (c .before .before .before .before .before .uid-filled .ensures)
+returns c =
+    let uid : tie.After-uid-filled = search in
+    let copies : tie.After-put-number2 = search in
+    let ticket : tie.After-put-number = search in
+    let pictures : tie.After-put-pictures = search in
+    let o : tie.Start = search in
+    entry-laid _ _ _ _ _ (o .args .n) (o .args .e) _ (o .pre .0) (o .pre .3)
+    (pictures .put-pictures .ensures)
+    (ticket .put-number .ensures)
+    (copies .put-number2 .ensures)
+    (uid .uid-filled .ensures)
     (c .before .before .put .ensures)
 
 pub put-entry-bytes-spec : {M : Type 1} → statement M

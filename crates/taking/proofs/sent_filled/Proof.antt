@@ -4,7 +4,7 @@ use Rattle.taking.proofs.sent_filled.Statement.{statement}
 use Rattle.taking.proofs.sent_filled.Tie as tie
 
 returns : tie.Need-returns
-returns c = text-filled (c .before .before .before .before .before .before .before .args .name .used) (c .before .before .before .before .before .before .before .args .name .text) _ (c .before .before .before .before .before .before .before .pre .0) (c .before .put .ensures)
+returns c = let o : tie.Start = search in text-filled (o .args .name .used) (o .args .name .text) _ (o .pre .0) (c .before .put .ensures)
 
 pub sent-filled-spec : {M : Type 1} → statement M
 sent-filled-spec =

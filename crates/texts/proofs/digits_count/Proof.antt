@@ -28,12 +28,14 @@ returns-2 c =
 
 returns-3 : tie.Need-returns-3 Inv-loop μ-loop
 returns-3 c =
-    let o = c .before .before .before .before .before .before .before .loop in
+    let at-loop : tie.At-loop Inv-loop μ-loop = search in
+    let o = at-loop .loop in
     (sym (o .inv .2 ∙ counted-turn _ (o .v) _ (o .i) (c .before .before .before .before .before .before .loop-test .taken) (c .before .before .before .before .if1 .left) (c .before .before .if2 .left) ∙ counted-over _ _ _ (c .if3 .taken)), search needs)
 
 loop-again : tie.Need-loop-again Inv-loop μ-loop
 loop-again c =
-    let o = c .before .before .before .before .before .before .before .loop in
+    let at-loop : tie.At-loop Inv-loop μ-loop = search in
+    let o = at-loop .loop in
     (search needs, c .if3 .left, o .inv .2 ∙ counted-turn _ (o .v) _ (o .i) (c .before .before .before .before .before .before .loop-test .taken) (c .before .before .before .before .if1 .left) (c .before .before .if2 .left))
 
 returns-4 : tie.Need-returns-4 Inv-loop μ-loop

@@ -30,12 +30,14 @@ returns-2 c =
 
 returns-3 : tie.Need-returns-3 Inv-loop μ-loop
 returns-3 c =
-    let o = c .before .before .before .before .before .before .before .loop in
+    let at-loop : tie.At-loop Inv-loop μ-loop = search in
+    let o = at-loop .loop in
     sym (o .inv .1 ∙ label-turn _ (o .i) (c .before .before .before .before .before .before .loop-test .taken) ∙ rw (le-leb 0x20 _ (c .before .before .before .before .if1 .left), le-leb _ 0x7E (c .before .before .if2 .left), eq-eqb _ 0x5C (c .if3 .taken)))
 
 loop-again : tie.Need-loop-again Inv-loop μ-loop
 loop-again c =
-    let o = c .before .before .before .before .before .before .before .loop in
+    let at-loop : tie.At-loop Inv-loop μ-loop = search in
+    let o = at-loop .loop in
     (search needs, o .inv .1 ∙ label-turn _ (o .i) (c .before .before .before .before .before .before .loop-test .taken) ∙ rw (le-leb 0x20 _ (c .before .before .before .before .if1 .left), le-leb _ 0x7E (c .before .before .if2 .left), ne-eqb _ 0x5C (c .if3 .left)))
 
 returns-4 : tie.Need-returns-4 Inv-loop μ-loop

@@ -27,9 +27,11 @@ loop-holds c = (search needs, search needs, refl)
 
 returns-2 : tie.Need-returns-2 Inv-loop μ-loop
 unfolding isUid
-returns-2 c = let o = c .before .before .before .before .before .before .loop in
+returns-2 c =
+    let head : tie.At-loop Inv-loop μ-loop = search in
+    let o = head .loop in
     let f = c .before .is-component in
-    sym (rw (le-leb _ _ (c .before .before .before .before .before .before .before .if1 .left)) (o .inv .2 ∙ components-dot _ (o .from) (o .i) (c .before .before .before .before .before .loop-test .taken) (c .before .before .before .if2 .taken) ∙ rw (← (f .ensures), not-true (f .result) (c .if3 .taken))))
+    sym (rw (le-leb _ _ (head .before .if1 .left)) (o .inv .2 ∙ components-dot _ (o .from) (o .i) (c .before .before .before .before .before .loop-test .taken) (c .before .before .before .if2 .taken) ∙ rw (← (f .ensures), not-true (f .result) (c .if3 .taken))))
 
 loop-again : tie.Need-loop-again Inv-loop μ-loop
 loop-again c = let o = c .before .before .before .loop in

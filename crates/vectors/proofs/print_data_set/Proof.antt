@@ -5,10 +5,10 @@ use Rattle.vectors.proofs.print_data_set.Statement.{statement}
 use Rattle.vectors.proofs.print_data_set.Tie as tie
 
 abbrev Inv-loop : tie.InvT-loop
-Inv-loop s explicit i₀ i = i ≤ 35
+Inv-loop s syntax i₀ i = i ≤ 35
 
 abbrev μ-loop : tie.MeasureT-loop
-μ-loop s explicit i₀ i = 35 - i
+μ-loop s syntax i₀ i = 35 - i
 
 pub print-data-set-spec : {M : Type 1} → statement M
 print-data-set-spec =

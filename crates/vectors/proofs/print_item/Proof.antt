@@ -5,10 +5,10 @@ use Rattle.vectors.proofs.print_item.Statement.{statement}
 use Rattle.vectors.proofs.print_item.Tie as tie
 
 abbrev Inv-loop : tie.InvT-loop
-Inv-loop s explicit over item i₀ i = i ≤ 35
+Inv-loop s syntax over item i₀ i = i ≤ 35
 
 abbrev μ-loop : tie.MeasureT-loop
-μ-loop s explicit over item i₀ i = 35 - i
+μ-loop s syntax over item i₀ i = 35 - i
 
 pub print-item-spec : {M : Type 1} → statement M
 print-item-spec =

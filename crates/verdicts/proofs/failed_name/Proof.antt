@@ -1,5 +1,5 @@
 use mathlib.Core.Path.{sym, ap, subst, _∙_}
-use Rattle.verdicts.specs.Verdicts.{failedName}
+use Rattle.rules.specs.Checks.{failedName}
 use Rattle.verdicts.specs.Ready.{UidsIn}
 use borrow.Author.Needs.{needs}
 use Rattle.verdicts.proofs.failed_name.Statement.{statement}

@@ -1,2 +1,0 @@
--- What a result leaves in the buffers.
-pub mod Laws

@@ -1,0 +1,16 @@
+use mathlib.Core.Path.{sym}
+use lib.Seq.{take-all}
+use Rattle.octets.proofs.Parts.{front}
+use borrow.Author.Needs.{needs}
+use Rattle.octets.proofs.front.Statement.{statement}
+use Rattle.octets.proofs.front.Tie as tie
+
+returns : tie.Need-returns
+returns c = front (c .before .before .args .s .now) (c .before .before .args .n)
+
+returns-2 : tie.Need-returns-2
+returns-2 c = sym (take-all _ _ (c .if1 .left))
+
+pub front-spec : {M : Type 1} → statement M
+front-spec = tie.close (tie.spec
+    (λ c. search needs) (λ c. search needs) (λ c. search needs) returns returns-2)
