@@ -17,7 +17,8 @@ class Field:
 
 class Layout:
     def __init__(self, top):
-        texts = [(top / f"crates/{name}.antt").read_text(encoding="utf-8") for name in ("strike/specs/Machine", "rules/specs/Bounds", "rules/specs/Layout")]
+        texts = [(top / f"crates/{name}.antt").read_text(encoding="utf-8")
+                 for name in ("strike/specs/Machine", "rules/specs/Bounds", "rules/specs/Layout")]
         self.sums = {name: said for text in texts for name, said in BOUND.findall(text)}
         self.formats = {name: self.parsed(body) for name, body in FORMAT.findall(texts[-1])}
 
