@@ -23,7 +23,8 @@ enum {
 
     /* In a film. */
     GATEWAY_FILM_NAME = 0,
-    GATEWAY_FILM_KIND = GATEWAY_FILM_NAME + GATEWAY_NAME_BYTES, /* its format, as below */
+    GATEWAY_FILM_SESSION = GATEWAY_FILM_NAME + GATEWAY_NAME_BYTES, /* the place of its session */
+    GATEWAY_FILM_KIND = GATEWAY_FILM_SESSION + 1, /* its format, as below */
     GATEWAY_FILM_LINES = GATEWAY_FILM_KIND + 1,   /* how many lines of boxes */
     GATEWAY_FILM_COUNTS = GATEWAY_FILM_LINES + 1, /* how many boxes each line has, a byte each */
     GATEWAY_FILM_BOXES = GATEWAY_FILM_COUNTS + GATEWAY_LINES + 1 + 1 + 4,

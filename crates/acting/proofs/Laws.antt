@@ -20,26 +20,27 @@ use Rattle.rules.specs.declared.Verdict.{Verdict}
 use Rattle.rules.specs.Lists.{any}
 use Rattle.rules.specs.declared.Instance.{Instance}
 use Rattle.rules.specs.declared.Instance.the-variants.{Nobody, TheSession, TheFilm, TheBox}
-use Rattle.rules.specs.Records.{filmsOf, shelved, entriesOf}
+use Rattle.rules.specs.Records.{shelved, entriesOf, filmsUnder}
 use Rattle.rules.specs.Effects.{printed, noneFilled, queueRoom}
 use Rattle.rules.specs.Checks.{printedWith, targetRules, sessionPrintRules, filmPrintRules, deletePlan, decidedBy}
+use Rattle.promises.proofs.Places.{films-under}
 use Rattle.verdicts.specs.Ready.{Ready}
 use Rattle.choice.proofs.Broken.{none-broken}
 use Rattle.acting.specs.Acting.{otherAction, actionRules, queuing}
 
 -- Room in the queue, where check 10 finds nothing wrong.
 
-pub session-room : (k : Core) (n : ℕ) → n ≡ firstBroken (sessionPrintRules k) → n ≡ 0 → length (entriesOf (k .queue)) + length (filmsOf (k .shelf)) ≤ 16
+pub session-room : (k : Core) (n : ℕ) → n ≡ firstBroken (sessionPrintRules k 0) → n ≡ 0 → length (entriesOf (k .queue)) + length (filmsUnder 0 (k .shelf)) ≤ 16
 session-room k n e kept =
-    let rules = none-broken (sessionPrintRules k) refl (sym e ∙ kept) in
-    omega (arith, eqb-false (length (filmsOf (k .shelf))) 0 (rules .0), ltb-false (queueRoom k) (length (filmsOf (k .shelf))) (rules .1 .1 .0))
+    let rules = none-broken (sessionPrintRules k 0) refl (sym e ∙ kept) in
+    omega (arith, eqb-false (length (filmsUnder 0 (k .shelf))) 0 (rules .0), ltb-false (queueRoom k) (length (filmsUnder 0 (k .shelf))) (rules .1 .1 .0))
 
 pub film-room : (k : Core) (i n : ℕ) → n ≡ firstBroken (filmPrintRules k i) → n ≡ 0 → length (entriesOf (k .queue)) < 16
 film-room k i n e kept = omega (arith, ltb-false (queueRoom k) 1 (none-broken (filmPrintRules k i) refl (sym e ∙ kept) .1 .0))
 
-pub films-counted : (k : Core) → Ready k → k .shelf .count ≡ length (filmsOf (k .shelf))
+pub films-counted : (k : Core) → Ready k → k .shelf .count ≡ length (filmsUnder 0 (k .shelf))
 unfolding shelved
-films-counted k h = ap (λ shelf. shelf .count) (sym (h .1))
+films-counted k h = ap (λ shelf. shelf .count) (sym (h .1)) ∙ ap length (sym (films-under k (h .0)))
 
 pub one-empty : (f : Film) → noneFilled f ≡ any noneFilled (f ∷ [])
 unfolding any

@@ -12,6 +12,7 @@ use rules::Session;
 use standings::Attribute;
 ghost use mathlib.Core.Path.{_≡_};
 ghost use Prim.Native.Nat.{_≤_};
+ghost use mathlib.Core.List.{[], _∷_};
 ghost use lib.Dec.{eqb};
 ghost use lib.ListN.{length};
 ghost use Rattle.choice.specs.Pick.{both, not};
@@ -22,9 +23,9 @@ ghost use Rattle.elements.specs.declared.Items.the-variants.{One};
 ghost use Rattle.elements.specs.Reader.{scopeOf};
 ghost use Rattle.elements.specs.Find.{itemsAt};
 ghost use Rattle.rules.specs.Text.{sessionClass};
-ghost use Rattle.rules.specs.Lists.{filledTo};
+ghost use Rattle.rules.specs.Lists.{any, filledTo};
 ghost use Rattle.rules.specs.Values.{trimmed, blank, countIn, labelAllowed, codeIn, priorities, media, destinations, orientations, magnifications, countsIn};
-ghost use Rattle.rules.specs.Records.{uidOf, isLive};
+ghost use Rattle.rules.specs.Records.{sessionNamed};
 ghost use Rattle.rules.specs.Commands.{placed};
 ghost use Rattle.rules.specs.Attributes.{listing, listingOf, look, valueOf, mandatory, optional, given, orKept, code, uid, attributeRules, sessionStandings, sessionWith, mustBeAbsent, referenceStandings, reference, optionalFilm, filmCreateStandings, filmSetStandings, filmWith, layoutIn};
 ghost use Rattle.standings.specs.Severity.{kindOf, severity, worst};
@@ -279,6 +280,7 @@ pub fn film_with(d: &[u8], syntax: Syntax, f: Film) -> Film
     let boxes = f.boxes;
     Film {
         name,
+        session: f.session,
         layout,
         orientation: orientation_or(d, syntax, f.orientation),
         magnification: magnification_or(d, syntax, f.magnification),
@@ -314,7 +316,7 @@ fn is_session_class(u: &[u8]) -> bool
 
 // "naming the live session"
 fn is_session(n: Numbers, s: Session, u: &[u8]) -> bool
-    ensures { λ r. ⌜ r ≡ both (isUid (now (u .entry))) (both (isLive s) (same (now (u .entry)) (uidOf n (s .name)))) ⌝ }
+    ensures { λ r. ⌜ r ≡ both (isUid (now (u .entry))) (any (sessionNamed n (now (u .entry))) (s ∷ [])) ⌝ }
 {
     if !uids::is_uid(u) {
         return false;
@@ -337,7 +339,7 @@ fn class_severity(d: &[u8], scope: Scope) -> u8
 
 fn instance_severity(n: Numbers, s: Session, d: &[u8], scope: Scope) -> u8
     requires { ⌜ (scope .inside .from ≤ scope .inside .stop) × (scope .inside .stop ≤ length (now d)) ⌝ }
-    ensures { λ r. ⌜ r ≡ severity (uid (λ u. both (isLive s) (same u (uidOf n (s .name)))) (listing (now (d .entry)) scope) 0x0008_1155) ⌝ }
+    ensures { λ r. ⌜ r ≡ severity (uid (λ u. any (sessionNamed n u) (s ∷ [])) (listing (now (d .entry)) scope) 0x0008_1155) ⌝ }
 {
     let at = standings::look(d, scope, REFERENCED_INSTANCE);
     let v = standings::value(d, at.value);
@@ -350,7 +352,8 @@ fn item_severity(k: Core, d: &[u8], syntax: Syntax, inside: Inside) -> u8
     ensures { λ r. ⌜ r ≡ worst (referenceStandings k (listingOf (now (d .entry)) syntax) (One inside)) ⌝ }
 {
     let numbers = k.numbers;
-    let session = k.session;
+    let places = k.sessions;
+    let session = shelves::the_session(places);
     let item = Scope {
         syntax,
         room: 3,

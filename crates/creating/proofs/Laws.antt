@@ -9,7 +9,7 @@ use native.Mathlib.Omega.{arith}
 use lib.Dec.{eqb}
 use lib.ListN.{length, replicate}
 use lib.Seq.{take-append-seam}
-use borrow.Author.Tests.{eq-eqb, ne-eqb, eqb-true, eqb-false, leb-true, ltb-false}
+use borrow.Author.Tests.{eq-eqb, ne-eqb, eqb-true, eqb-false, ltb-false}
 use Rattle.choice.specs.Pick.{pick, not}
 use Rattle.choice.specs.Rules.{Rule, _⇒_, firstBroken}
 use Rattle.choice.proofs.Picks.{first-kept, not-true}
@@ -19,21 +19,26 @@ use Rattle.uids.specs.Uids.{unpadded}
 use Rattle.rules.specs.declared.Film.{Film}
 use Rattle.rules.specs.declared.Numbers.{Numbers}
 use Rattle.rules.specs.declared.Shelf.{Shelf}
+use Rattle.rules.specs.declared.Session.{Session}
 use Rattle.rules.specs.declared.Core.{Core}
 use Rattle.rules.specs.declared.Contents.{Contents}
 use Rattle.rules.specs.declared.Verdict.{Verdict}
 use Rattle.rules.specs.declared.Request.{Request}
 use Rattle.rules.specs.Bounds.{mostFilms, noneLeft}
+use Rattle.rules.specs.Lists.{every}
 use Rattle.rules.specs.Values.{blank, kindIn, countsIn}
-use Rattle.rules.specs.Records.{boxCount, filmsOf, shelved, isLive, withNumbers, withFilms, serialsUsed}
+use Rattle.rules.specs.Records.{boxCount, filmsOf, shelved, isLive, withNumbers, withFilms, serialsUsed, sessionsOf, theSession}
 use Rattle.rules.specs.Commands.{size, bytesOf, uidAt}
-use Rattle.rules.specs.Attributes.{Listing, Standing, look, valueOf, attributeRules, sessionStandings, filmCreateStandings, filmWith, layoutFrom, layoutIn}
+use Rattle.rules.specs.Attributes.{Listing, Standing, fine, look, valueOf, attributeRules, sessionStandings, reference, sessionIn, optionalFilm, filmCreateStandings, filmWith, layoutFrom, layoutIn}
 use Rattle.rules.specs.Effects.{ownSerials, tooFewSerials, nameFrom, sessionCreated, newFilm, filmSerials, filmCreated}
 use Rattle.rules.specs.declared.Class.the-variants.{Sessions, Films}
 use Rattle.rules.specs.Checks.{createRules, newSessionRules, newFilmRules, quietly, sentUid, boxesIn, createPlan, decidedBy}
 use Rattle.rules.specs.Sound.{coreSound}
-use Rattle.promises.proofs.Facts.{core-facts, numbers-facts, shelf-facts, filmRoom, between-true}
-use Rattle.promises.proofs.Standings.{kept-fine, mandatory-fine}
+use Rattle.promises.proofs.ListLaws.{each-parts}
+use Rattle.promises.proofs.Facts.{core-facts, numbers-facts, between-true}
+use Rattle.promises.proofs.Places.{place-there}
+use Rattle.promises.proofs.Tidy.{shelf-few}
+use Rattle.promises.proofs.Standings.{kept-fine, mandatory-fine, reference-live}
 use Rattle.promises.proofs.Layouts.{Lines, counts-lines, sum-between, layout-few}
 use Rattle.promises.proofs.NewNames.{sendable, sent-short}
 use Rattle.choice.proofs.Broken.{none-broken}
@@ -43,7 +48,7 @@ use Rattle.creating.specs.FilmVerdict.{withNewBoxes}
 -- Check 8 before check 9.
 
 abbrev pub sessionRows : Core → List ℕ → List Rule
-sessionRows k sent = (isLive (k .session) ⇒ 0x0213) ∷ (tooFewSerials (k .numbers) (ownSerials sent) ⇒ 0x0213) ∷ []
+sessionRows k sent = (every isLive (sessionsOf k) ⇒ 0x0213) ∷ (tooFewSerials (k .numbers) (ownSerials sent) ⇒ 0x0213) ∷ []
 
 abbrev pub filmRows : Core → List ℕ → Listing → List Rule
 filmRows k sent l = (eqb (length (filmsOf (k .shelf))) mostFilms ⇒ 0x0213) ∷ (tooFewSerials (k .numbers) (filmSerials sent l) ⇒ 0x0213) ∷ []
@@ -99,6 +104,16 @@ session-kept k sent l e =
       ltb-false noneLeft (k .numbers .serial + ownSerials sent) (h .1 .1 .1 .1 .0),
     )
 
+-- the only place, by what the code reads there
+module _ (k : Core) (s : Session) (here : s ≡ theSession k) where
+  pub place-taken : (s .live ≡ 0 → ⊥) → every isLive (sessionsOf k) ≡ true
+  unfolding every
+  place-taken h = rw (← here, ne-eqb (s .live) 0 h)
+
+  pub place-blank : s .live ≡ 0 → every isLive (sessionsOf k) ≡ false
+  unfolding every
+  place-blank h = rw (← here, eq-eqb (s .live) 0 h)
+
 -- Films.
 
 lines-some : (kind : ℕ) (counts : List ℕ) → Lines counts → 1 ≤ boxCount (layoutFrom kind counts)
@@ -107,6 +122,7 @@ lines-some kind counts g =
     rw (take-append-seam counts (replicate (6 - length counts) 0)) (omega (arith, g .some, sum-between counts (g .each) .0))
 
 pub record FilmKept (k : Core) (sent : List ℕ) (l : Listing) : Type 0 where
+  pub own : sessionIn k l ≡ 0
   pub room : length (filmsOf (k .shelf)) ≡ 8 → ⊥
   pub serials : k .numbers .serial + (ownSerials sent + boxCount (layoutIn l)) ≤ noneLeft
   pub some : 1 ≤ boxCount (layoutIn l)
@@ -118,7 +134,11 @@ film-kept k sent l e =
     let v = valueOf l 0x2010_0010 in
     let f = kept-fine (filmCreateStandings k l) (h .0, (h .1 .0, (h .1 .1 .0, tt))) in
     let a = not-true (eqb (length (countsIn v)) 0) (mandatory-fine blank (λ v. not (eqb (length (countsIn v)) 0)) l (look l 0x2010_0010) (f .0)) in
+    let refers = reference k l (look l 0x2010_0500) in
+    let named = each-parts (λ (s : Standing). s ≡ fine) refers (optionalFilm l) (f .1) .0 in
+    let place = place-there (sessionsOf k) (sessionIn k l) (reference-live k l named) in
     record {
+      own = omega (arith, place);
       room = eqb-false (length (filmsOf (k .shelf))) 8 (h .1 .1 .1 .0);
       serials = ltb-false noneLeft (k .numbers .serial + filmSerials sent l) (h .1 .1 .1 .1 .0);
       some = lines-some (kindIn v) (countsIn v) (counts-lines v (eqb-false (length (countsIn v)) 0 a));
@@ -129,16 +149,11 @@ pub films-counted : (shelf : Shelf) → shelved (filmsOf shelf) ≡ shelf → le
 unfolding shelved
 films-counted shelf e = ap (λ (s : Shelf). s .count) e
 
-pick-most : (b : Bool) → pick b 8 0 ≤ 8
-pick-most true = omega arith
-pick-most false = omega arith
-
 -- there is room for one more film
 pub room-left : (k : Core) (sent : List ℕ) (l : Listing) → coreSound k ≡ true → shelved (filmsOf (k .shelf)) ≡ k .shelf → FilmKept k sent l → k .shelf .count < 8
 room-left k sent l e h f =
     let n = films-counted (k .shelf) h in
-    let m = leb-true (k .shelf .count) (filmRoom (k .session)) (shelf-facts (k .numbers) (k .session) (k .shelf) (core-facts k e .shelf) .count) in
-    let p = pick-most (isLive (k .session)) in
+    let m = shelf-few k e in
     let d : k .shelf .count ≡ 8 → ⊥ = λ z. f .room (n ∙ z) in
     omega arith
 

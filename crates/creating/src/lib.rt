@@ -65,7 +65,8 @@ fn new_session_broken(k: Core, d: &[u8], syntax: Syntax, sent: &[u8]) -> u16
     if broken != 0 {
         return broken;
     }
-    let session = k.session;
+    let places = k.sessions;
+    let session = shelves::the_session(places);
     if session.live != 0 {
         return 0x0213;
     }
@@ -107,7 +108,7 @@ fn session_created(k: Core, d: &[u8], syntax: Syntax, sent: &[u8]) -> Core
     let opened = k.opened;
     Core {
         numbers,
-        session,
+        sessions: [session],
         shelf,
         queue,
         opened,
@@ -164,7 +165,7 @@ fn new_film_broken(k: Core, d: &[u8], syntax: Syntax, sent: &[u8]) -> u16
     0
 }
 
-// Orientation PORTRAIT, Magnification BILINEAR, unless the data set gives others.
+// Orientation PORTRAIT, Magnification BILINEAR, unless the data set gives others. The session named is at the only place.
 fn new_film(k: Core, d: &[u8], syntax: Syntax, sent: &[u8]) -> Film
     requires { ⌜ (length (now sent) ≤ 64) × (firstBroken (newFilmRules k (now sent) (listingOf (now d) syntax)) ≡ 0) ⌝ }
     ensures { λ r. ⌜ r ≡ newFilm k (now (sent .entry)) (listingOf (now (d .entry)) syntax) ⌝ }
@@ -178,6 +179,7 @@ fn new_film(k: Core, d: &[u8], syntax: Syntax, sent: &[u8]) -> Film
     let first = next as u32;
     let film = Film {
         name,
+        session: 0,
         layout,
         orientation: 0,
         magnification: 2,
@@ -196,12 +198,12 @@ fn film_created(k: Core, film: Film, serials: u64) -> Core
     let numbers = shelves::serials_used(all, serials);
     let others = k.shelf;
     let shelf = shelves::film_added(others, film);
-    let session = k.session;
+    let sessions = k.sessions;
     let queue = k.queue;
     let opened = k.opened;
     Core {
         numbers,
-        session,
+        sessions,
         shelf,
         queue,
         opened,

@@ -2,7 +2,7 @@
 -- Assumes nothing.
 use mathlib.Core.Path.{_≡_, refl}
 use mathlib.Core.Bool.{Bool, true, false}
-use mathlib.Core.List.{List, _∷_, map}
+use mathlib.Core.List.{List, _∷_, map, []}
 use Rattle.choice.specs.Pick.{both, not}
 use Rattle.choice.proofs.Picks.{both-assoc}
 use Rattle.rules.specs.declared.Name.{Name}
@@ -62,6 +62,6 @@ unfolding apart textFree textsApart
 first-text name films = refl
 
 -- "UIDs differ": the session's own from the films', and the films' from one another
-pub uids-apart : (s : Session) (films : List Film) → uidsApart s films ≡ filmsDiffer (s .name) films
+pub uids-apart : (s : Session) (films : List Film) → uidsApart (s ∷ []) films ≡ filmsDiffer (s .name) films
 unfolding uidsApart filmsDiffer
 uids-apart s films = rw (first-serials (ownSerial (s .name)) films, first-text (s .name) films)

@@ -5,6 +5,7 @@ use rules::Session;
 use rules::Shelf;
 ghost use mathlib.Core.Path.{_≡_};
 ghost use Prim.Native.Nat.{_<_, _≤_};
+ghost use mathlib.Core.List.{[], _∷_};
 ghost use lib.Dec.{eqb};
 ghost use lib.ListN.{length, take, drop};
 ghost use Rattle.choice.specs.Pick.{pick};
@@ -197,7 +198,7 @@ fn films_apart(name: Name, films: [Film; 8], n: usize) -> bool
 }
 
 pub fn uids_apart(session: Session, shelf: Shelf) -> bool
-    ensures { λ r. ⌜ r ≡ uidsApart session (filmsOf shelf) ⌝ }
+    ensures { λ r. ⌜ r ≡ uidsApart (session ∷ []) (filmsOf shelf) ⌝ }
 {
     let films = shelf.films;
     let n = films_within(films, shelf.count as usize);

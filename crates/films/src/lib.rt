@@ -8,13 +8,11 @@ use rules::Shelf;
 ghost use mathlib.Core.Path.{_≡_};
 ghost use Prim.Native.Nat.{_+_};
 ghost use mathlib.Core.List.{[], _∷_};
-ghost use lib.Dec.{eqb, leb};
+ghost use lib.Dec.{leb};
 ghost use lib.ListN.{take, drop};
-ghost use Rattle.choice.specs.Pick.{pick, not};
-ghost use Rattle.rules.specs.Bounds.{mostFilms};
 ghost use Rattle.rules.specs.Lists.{every};
 ghost use Rattle.rules.specs.Records.{boxCount, boxesOf};
-ghost use Rattle.rules.specs.Sound.{between, zeros, layoutSound, boxSound, boxBlank, filmBlank, filmSound, shelfSound};
+ghost use Rattle.rules.specs.Sound.{between, zeros, layoutSound, boxSound, boxBlank, filmBlank, filmSound, hasSession, shelfSound};
 
 // As many boxes as a line may have, and as many lines as a film.
 fn one_to_six(n: u8) -> bool
@@ -133,8 +131,11 @@ fn boxes_sound(count: usize, n: Numbers, a: [ImageBox; 36]) -> bool
 }
 
 fn unmarked(f: Film) -> bool
-    ensures { λ r. ⌜ r ≡ zeros (f .layout .kind ∷ f .layout .lines ∷ f .orientation ∷ f .magnification ∷ f .first .0 ∷ []) ⌝ }
+    ensures { λ r. ⌜ r ≡ zeros (f .session ∷ f .layout .kind ∷ f .layout .lines ∷ f .orientation ∷ f .magnification ∷ f .first .0 ∷ []) ⌝ }
 {
+    if f.session != 0 {
+        return false;
+    }
     let layout = f.layout;
     if layout.kind != 0 {
         return false;
@@ -268,24 +269,48 @@ fn films_sound(count: usize, n: Numbers, a: [Film; 8]) -> bool
     true
 }
 
-// How many films there may be: none without a session.
-fn films_allowed(live: u8) -> usize
-    ensures { λ r. ⌜ r ≡ pick (not (eqb live 0)) mostFilms 0 ⌝ }
+// "films only under it": whether a film is of this session, and it is live.
+fn has_session(s: Session, f: Film) -> bool
+    ensures { λ r. ⌜ r ≡ hasSession (s ∷ []) f ⌝ }
 {
-    if live == 0 {
-        return 0;
+    if f.session != 0 {
+        return false;
     }
-    8
+    if s.live == 0 {
+        return false;
+    }
+    true
+}
+
+fn films_owned(count: usize, s: Session, a: [Film; 8]) -> bool
+    ensures { λ r. ⌜ r ≡ every (hasSession (s ∷ [])) (take count a) ⌝ }
+{
+    let xs = a;
+    let mut i = 0;
+    while i < 8 {
+        if count <= i {
+            return true;
+        }
+        let x = xs[i];
+        if !has_session(s, x) {
+            return false;
+        }
+        i += 1;
+    }
+    true
 }
 
 pub fn shelf_sound(n: Numbers, s: Session, shelf: Shelf) -> bool
-    ensures { λ r. ⌜ r ≡ shelfSound n s shelf ⌝ }
+    ensures { λ r. ⌜ r ≡ shelfSound n (s ∷ []) shelf ⌝ }
 {
     let count = shelf.count as usize;
-    if films_allowed(s.live) < count {
+    if 8 < count {
         return false;
     }
     let films = shelf.films;
+    if !films_owned(count, s, films) {
+        return false;
+    }
     if !films_sound(count, n, films) {
         return false;
     }

@@ -7,13 +7,12 @@ use mathlib.Core.List.{List, [], _∷_}
 use native.Mathlib.Omega.{arith}
 use lib.ListN.{length, getD}
 use borrow.Author.Tests.{lt-ltb, le-ltb, ltb-true}
-use Rattle.choice.specs.Pick.{both}
 use Rattle.octets.specs.Octets.{same}
 use Rattle.uids.specs.Uids.{beginsWith}
 use Rattle.rules.specs.declared.Core.{Core}
 use Rattle.rules.specs.Lists.{any, placeOf}
 use Rattle.rules.specs.declared.Instance.the-variants.{Nobody, TheSession, TheFilm, TheBox}
-use Rattle.rules.specs.Records.{noFilm, boxCount, filmsOf, rootOf, uidOf, isLive, boxUids, filmNamed, boxNamed, named}
+use Rattle.rules.specs.Records.{noFilm, boxCount, filmsOf, theSession, rootOf, boxUids, sessionNamed, filmNamed, boxNamed, named}
 use Rattle.instances.proofs.Places.{any-place, place-passes, never-box, box-found}
 
 -- what stands in the list does not depend on what stands behind it
@@ -23,11 +22,11 @@ getD-within (x ∷ xs) zero d e h = refl
 getD-within (x ∷ xs) (suc i) d e h = getD-within xs i d e (omega arith)
 
 module _ (k : Core) (uid : List ℕ) where
-  pub names-session : both (isLive (k .session)) (same uid (uidOf (k .numbers) (k .session .name))) ≡ true → TheSession ≡ named k uid
+  pub names-session : sessionNamed (k .numbers) uid (theSession k) ≡ true → TheSession ≡ named k uid
   unfolding named
   names-session e = rw e
 
-  module _ (s : both (isLive (k .session)) (same uid (uidOf (k .numbers) (k .session .name))) ≡ false) where
+  module _ (s : sessionNamed (k .numbers) uid (theSession k) ≡ false) where
     pub names-film : (i : ℕ) → i ≡ placeOf (filmNamed (k .numbers) uid) (filmsOf (k .shelf)) → i < length (filmsOf (k .shelf)) → TheFilm i ≡ named k uid
     unfolding named
     names-film i at h =

@@ -2,20 +2,19 @@
 -- Assumes nothing.
 use Prim.Native.Nat.{ℕ, zero, suc, _+_, _≤_, _<_}
 use mathlib.Core.Path.{_≡_}
-use mathlib.Core.Bool.{Bool, true, false}
+use mathlib.Core.Bool.{Bool, true}
 use mathlib.Core.List.{List, [], _∷_}
 use native.Mathlib.Omega.{arith}
 use lib.Dec.{leb}
 use lib.ListN.{length, getD}
 use borrow.Author.Tests.{leb-true}
-use Rattle.choice.specs.Pick.{pick}
 use Rattle.choice.proofs.Picks.{both-true}
 use Rattle.rules.specs.declared.Film.{Film}
 use Rattle.rules.specs.declared.Numbers.{Numbers}
 use Rattle.rules.specs.declared.Core.{Core}
-use Rattle.rules.specs.Bounds.{noneLeft}
+use Rattle.rules.specs.Bounds.{mostFilms, noneLeft}
 use Rattle.rules.specs.Lists.{every}
-use Rattle.rules.specs.Records.{boxCount, filmsOf, isLive}
+use Rattle.rules.specs.Records.{boxCount, filmsOf, sessionsOf}
 use Rattle.rules.specs.Sound.{all, numbersSound, filmSound, shelfSound, coreSound}
 use Rattle.instances.specs.There.{SerialsFit, AllFit}
 
@@ -46,21 +45,17 @@ film-fits n f h e =
     let l = leb-true (f .first .0 + boxCount (f .layout)) (n .serial) (t .1 .1 .1 .1 .1 .0) in
     omega arith
 
-few : (live : Bool) (count : ℕ) → leb count (pick live 8 0) ≡ true → count ≤ 8
-few true count e = leb-true count 8 e
-few false count e = let h = leb-true count 0 e in omega arith
-
 module _ (k : Core) (e : coreSound k ≡ true) where
-  core-parts : (numbersSound (k .numbers) ≡ true) × (shelfSound (k .numbers) (k .session) (k .shelf) ≡ true)
+  core-parts : (numbersSound (k .numbers) ≡ true) × (shelfSound (k .numbers) (sessionsOf k) (k .shelf) ≡ true)
   unfolding coreSound
-  core-parts = let t = all-true _ e in (t .0, t .1 .1 .1 .0)
+  core-parts = let t = all-true _ e in (t .0, t .1 .1 .0)
 
   pub films-few : k .shelf .count ≤ 8
   unfolding shelfSound
-  films-few = let t = all-true _ (core-parts .1) in few (isLive (k .session)) (k .shelf .count) (t .0)
+  films-few = let t = all-true _ (core-parts .1) in leb-true (k .shelf .count) mostFilms (t .0)
 
   pub films-fit : AllFit (filmsOf (k .shelf))
   unfolding shelfSound
   films-fit i d h =
       let t = all-true _ (core-parts .1) in
-      film-fits (k .numbers) (getD (filmsOf (k .shelf)) i d) (serial-left (k .numbers) (core-parts .0)) (every-at (filmSound (k .numbers)) (filmsOf (k .shelf)) i d (t .1 .0) h)
+      film-fits (k .numbers) (getD (filmsOf (k .shelf)) i d) (serial-left (k .numbers) (core-parts .0)) (every-at (filmSound (k .numbers)) (filmsOf (k .shelf)) i d (t .1 .1 .0) h)

@@ -7,18 +7,18 @@ use rules::Instance;
 use rules::Name;
 use rules::Numbers;
 use rules::Operation;
+use rules::SESSIONS;
 use rules::Session;
 ghost use mathlib.Core.Path.{_≡_};
 ghost use mathlib.Core.Bool.{true};
 ghost use mathlib.Core.List.{map};
 ghost use Prim.Native.Nat.{_+_, _≤_};
-ghost use lib.ListN.{length, take};
-ghost use Rattle.choice.specs.Pick.{both};
+ghost use lib.ListN.{length, getD, take};
 ghost use Rattle.octets.specs.Octets.{same};
 ghost use Rattle.uids.specs.Uids.{beginsWith, made};
 ghost use Rattle.rules.specs.Bounds.{noneLeft};
 ghost use Rattle.rules.specs.Lists.{placeOf, from};
-ghost use Rattle.rules.specs.Records.{rootOf, uidOf, isLive, boxUids, filmNamed, boxNamed, named};
+ghost use Rattle.rules.specs.Records.{rootOf, boxUids, filmNamed, boxNamed, named, noSession, sessionNamed, uidOf};
 ghost use Rattle.rules.specs.Commands.{uidAt};
 ghost use Rattle.rules.specs.declared.Class.the-variants.{Verification, Boxes};
 ghost use Rattle.rules.specs.Checks.{classOf, offers, classPart};
@@ -176,9 +176,11 @@ fn film_with_box(n: Numbers, films: [Film; 8], count: usize, uid: &[u8]) -> usiz
     i
 }
 
-fn is_session(n: Numbers, s: Session, uid: &[u8]) -> bool
-    ensures { λ r. ⌜ r ≡ both (isLive s) (same (now (uid .entry)) (uidOf n (s .name))) ⌝ }
+// Whether it is that of the session at the only place.
+fn is_session(n: Numbers, places: [Session; SESSIONS], uid: &[u8]) -> bool
+    ensures { λ r. ⌜ r ≡ sessionNamed n (now (uid .entry)) (getD places 0 noSession) ⌝ }
 {
+    let s = shelves::the_session(places);
     if s.live == 0 {
         return false;
     }
@@ -192,8 +194,8 @@ pub fn named(k: Core, uid: &[u8]) -> Instance
     ensures { λ r. ⌜ (r ≡ named k (now (uid .entry))) × There k r ⌝ }
 {
     let numbers = k.numbers;
-    let session = k.session;
-    if is_session(numbers, session, uid) {
+    let sessions = k.sessions;
+    if is_session(numbers, sessions, uid) {
         return Instance::TheSession;
     }
     let shelf = k.shelf;

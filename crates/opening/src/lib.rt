@@ -106,7 +106,7 @@ fn started(root: &[u8], serial: u32, picture: u32) -> Core
     };
     Core {
         numbers,
-        session,
+        sessions: [session],
         shelf,
         queue,
         opened,

@@ -15,7 +15,7 @@ use Rattle.rules.specs.declared.Entry.{Entry}
 use Rattle.rules.specs.declared.Input.{Input}
 use Rattle.rules.specs.declared.State.{State}
 use Rattle.rules.specs.Lists.{from, filledTo}
-use Rattle.rules.specs.Records.{noBox, noFilm, noEntry}
+use Rattle.rules.specs.Records.{noBox, noFilm, noEntry, theSession}
 use Rattle.rules.specs.Layout.{unpack, pack}
 use Rattle.rules.specs.Outcomes as outcomes
 use Rattle.rules.specs.Outcomes.{coreWritten}
@@ -44,7 +44,7 @@ layoutWidths = whole 1 ∷ whole 1 ∷ map whole (replicate 6 1)
 
 -- of the boxes the second is looked at, behind the first of six bytes
 abbrev filmWidths : List Width
-filmWidths = nameWidths ++ (layoutWidths ++ (whole 1 ∷ whole 1 ∷ (4, 4 + 6) ∷ whole 1 ∷ whole 1 ∷ (4, 4 + 34 * 6) ∷ []))
+filmWidths = nameWidths ++ ((whole 1 ∷ layoutWidths) ++ (whole 1 ∷ whole 1 ∷ (4, 4 + 6) ∷ whole 1 ∷ whole 1 ∷ (4, 4 + 34 * 6) ∷ []))
 
 -- from the second picture on
 abbrev entryWidths : List Width
@@ -110,7 +110,7 @@ abbrev box : ImageBox → List ℕ
 box b = b .position ∷ b .polarity ∷ b .picture .0 ∷ []
 
 abbrev film : Film → List ℕ
-film f = name (f .name) ++ ((f .layout .kind ∷ f .layout .lines ∷ f .layout .counts) ++ ((f .orientation ∷ f .magnification ∷ f .first .0 ∷ []) ++ box (getD (f .boxes) 1 noBox)))
+film f = name (f .name) ++ ((f .session ∷ f .layout .kind ∷ f .layout .lines ∷ f .layout .counts) ++ ((f .orientation ∷ f .magnification ∷ f .first .0 ∷ []) ++ box (getD (f .boxes) 1 noBox)))
 
 abbrev entry : Entry → List ℕ
 entry e = (getD (e .pictures) 1 (record { 0 = 0 }) .0 ∷ e .ticket ∷ e .copies ∷ []) ++ name (e .film)
@@ -130,7 +130,7 @@ entryOf s = getD (s .core .queue .entries) 1 noEntry
 abbrev values : State → List ℕ
 values s =
     numbers (s .core .numbers)
-    ++ (session (s .core .session)
+    ++ (session (theSession (s .core))
     ++ ((s .core .shelf .count ∷ film (filmOf s))
     ++ ((s .core .queue .count ∷ entry (entryOf s))
     ++ (opened (s .core .opened)
@@ -148,7 +148,7 @@ littleEndian place (suc bytes) = place % 256 + 256 * littleEndian (place + 1) by
 
 abbrev lengths : State → List ℕ
 lengths s =
-    length (s .core .numbers .root) ∷ length (s .core .session .name .text) ∷ length (s .core .session .label) ∷ length (s .core .shelf .films)
+    length (s .core .numbers .root) ∷ length (theSession (s .core) .name .text) ∷ length (theSession (s .core) .label) ∷ length (s .core .shelf .films)
     ∷ length (filmOf s .boxes) ∷ length (s .core .queue .entries) ∷ length (entryOf s .pictures) ∷ length (s .input .command) ∷ []
 
 abbrev places : List Example
@@ -169,6 +169,7 @@ nameOf n = record { made = record { 0 = n }; used = n + 1; text = filledTo 64 0 
 abbrev secondFilm : Film
 secondFilm = record {
   name = nameOf 17;
+  session = 49;
   layout = record { kind = 20; lines = 21; counts = 22 ∷ 23 ∷ 24 ∷ 25 ∷ 26 ∷ 27 ∷ [] };
   orientation = 28;
   magnification = 29;
@@ -183,7 +184,7 @@ abbrev state : State
 state = record {
   core = record {
     numbers = record { used = 1; root = filledTo 40 0 (2 ∷ []); serial = 3; picture = 4; ticket = 5 };
-    session = record { live = 6; name = nameOf 7; copies = 10; priority = 11; medium = 12; destination = 13; used = 14; label = filledTo 64 0 (15 ∷ []) };
+    sessions = record { live = 6; name = nameOf 7; copies = 10; priority = 11; medium = 12; destination = 13; used = 14; label = filledTo 64 0 (15 ∷ []) } ∷ [];
     shelf = record { count = 16; films = filledTo 8 noFilm (noFilm ∷ secondFilm ∷ []) };
     queue = record { count = 34; entries = filledTo 16 noEntry (noEntry ∷ secondEntry ∷ []) };
     opened = record { live = 41; context = 42; syntax = 43; room = 44 };

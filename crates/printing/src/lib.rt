@@ -6,17 +6,19 @@ use rules::ImageBox;
 use rules::Numbers;
 use rules::Picture;
 use rules::Queue;
+use rules::SESSIONS;
+use rules::Session;
 use rules::Shelf;
 ghost use mathlib.Core.Path.{_≡_};
 ghost use Prim.Native.Nat.{_+_, _-_, _<_, _≤_};
 ghost use mathlib.Core.List.{[], _∷_, _++_, map};
 ghost use lib.Dec.{eqb, ltb};
-ghost use lib.ListN.{length, take, drop};
+ghost use lib.ListN.{length, getD, take, drop};
 ghost use Rattle.choice.specs.Pick.{both, not};
 ghost use Rattle.choice.specs.Rules.{_⇒_, firstBroken};
 ghost use Rattle.rules.specs.Bounds.{mostBoxes, mostEntries};
 ghost use Rattle.rules.specs.Lists.{any, apart, from};
-ghost use Rattle.rules.specs.Records.{boxesOf, filled, filmsOf, entriesOf, queued};
+ghost use Rattle.rules.specs.Records.{boxesOf, filled, filmsOf, entriesOf, queued, noSession, filmsUnder};
 ghost use Rattle.rules.specs.Effects.{filmAt, pictureOn, entryOf, nextTicket, ticketed, printed, filledBoxes, noneFilled};
 ghost use Rattle.rules.specs.Checks.{samePosition, collides, sessionPrintRules, filmPrintRules};
 
@@ -159,14 +161,26 @@ fn pictures_of(a: [ImageBox; 36], n: usize) -> [Picture; 36]
     xs
 }
 
+// The copies of the session at a place; 0 where there is no such place.
+fn copies_at(places: [Session; SESSIONS], i: usize) -> u8
+    ensures { λ r. ⌜ r ≡ getD places i noSession .copies ⌝ }
+{
+    if SESSIONS <= i {
+        return 0;
+    }
+    let xs = places;
+    let session = xs[i];
+    session.copies
+}
+
 // "thirty-six picture numbers in position order (0 empty), the film's UID, copies and a ticket"
 pub fn entry_of(k: Core, ticket: u16, f: Film) -> Entry
     ensures { λ r. ⌜ r ≡ entryOf k ticket f ⌝ }
 {
     let boxes = f.boxes;
     let pictures = pictures_of(boxes, places(f));
-    let session = k.session;
-    let copies = session.copies;
+    let sessions = k.sessions;
+    let copies = copies_at(sessions, f.session as usize);
     let film = f.name;
     Entry {
         pictures,
@@ -260,8 +274,10 @@ fn print_broken(colliding: bool, full: bool, number: u16) -> u16
 }
 
 // Check 10, for a session: the number of the first rule broken, 0 where none is.
+// While there is one place, all films are of its session.
 pub fn session_print_broken(k: Core) -> u16
-    ensures { λ r. ⌜ r ≡ firstBroken (sessionPrintRules k) ⌝ }
+    requires { ⌜ filmsUnder 0 (k .shelf) ≡ filmsOf (k .shelf) ⌝ }
+    ensures { λ r. ⌜ r ≡ firstBroken (sessionPrintRules k 0) ⌝ }
 {
     let shelf = k.shelf;
     let count = film_count(shelf);
@@ -320,12 +336,12 @@ fn printed_one(k: Core, f: Film) -> Core
     let numbers = ticket_used(used);
     let waiting = k.queue;
     let queue = queue_with(waiting, entry);
-    let session = k.session;
+    let sessions = k.sessions;
     let shelf = k.shelf;
     let opened = k.opened;
     Core {
         numbers,
-        session,
+        sessions,
         shelf,
         queue,
         opened,
@@ -350,8 +366,8 @@ fn printed_films(k: Core, a: [Film; 8], n: usize) -> Core
 
 // A session printed, where the queue has room for its films.
 pub fn printed_session(k: Core) -> Core
-    requires { ⌜ (queued (entriesOf (k .queue)) ≡ k .queue) × (length (entriesOf (k .queue)) + length (filmsOf (k .shelf)) ≤ 16) ⌝ }
-    ensures { λ r. ⌜ r ≡ printed k (filmsOf (k .shelf)) ⌝ }
+    requires { ⌜ (filmsUnder 0 (k .shelf) ≡ filmsOf (k .shelf)) × (queued (entriesOf (k .queue)) ≡ k .queue) × (length (entriesOf (k .queue)) + length (filmsUnder 0 (k .shelf)) ≤ 16) ⌝ }
+    ensures { λ r. ⌜ r ≡ printed k (filmsUnder 0 (k .shelf)) ⌝ }
 {
     let shelf = k.shelf;
     let films = shelf.films;
@@ -387,7 +403,8 @@ fn any_none_filled(a: [Film; 8], n: usize) -> bool
 
 // Check 11, for a session: "a film has no filled box".
 pub fn any_empty(k: Core) -> bool
-    ensures { λ r. ⌜ r ≡ any noneFilled (filmsOf (k .shelf)) ⌝ }
+    requires { ⌜ filmsUnder 0 (k .shelf) ≡ filmsOf (k .shelf) ⌝ }
+    ensures { λ r. ⌜ r ≡ any noneFilled (filmsUnder 0 (k .shelf)) ⌝ }
 {
     let shelf = k.shelf;
     let films = shelf.films;

@@ -20,16 +20,16 @@ use Rattle.rules.specs.declared.Numbers.{Numbers}
 use Rattle.rules.specs.declared.Core.{Core}
 use Rattle.rules.specs.Lists.{every}
 use Rattle.rules.specs.Values.{noBytes, blank, isUS, usIn, polarities, codeIn}
-use Rattle.rules.specs.Records.{rootOf, boxCount, boxesOf, filmsOf, noBox, noFilm, shelved, pictureUsed}
+use Rattle.rules.specs.Records.{rootOf, boxCount, boxesOf, filmsOf, noBox, noFilm, shelved, pictureUsed, sessionsOf}
 use Rattle.rules.specs.declared.Image.{Image}
 use Rattle.rules.specs.declared.Image.the-variants.{Keeps, Erases, TooMany, Fills}
 use Rattle.rules.specs.Attributes.{Listing, look, valueOf, orKept, attributeRules, codeAllowed, us, imageIn, isFill, boxStandings, pictureAfter, boxWith}
 use Rattle.rules.specs.Effects.{noPictureLeft, filmAt, withBoxes, boxSetIn, numbersAfter, boxSet}
 use Rattle.rules.specs.Checks.{boxRules}
-use Rattle.rules.specs.Sound.{between, flag, numbersSound, boxSound, filmSound, shelfSound, uidsApart, coreSound}
+use Rattle.rules.specs.Sound.{between, flag, numbersSound, boxSound, filmSound, shelfSound, uidsApart, coreSound, hasSession}
 use Rattle.promises.proofs.ListLaws.{every-set, every-at, films-shelved}
 use Rattle.promises.proofs.Facts.{between-true, between-holds, core-facts, core-sound, numbers-facts, numbers-sound, counted, shelf-facts, shelved-sound, films-few, box-facts, box-sound, film-facts, film-sound}
-use Rattle.promises.proofs.Later.{Later, session-later, film-later, films-later, queue-later}
+use Rattle.promises.proofs.Later.{Later, sessions-later, film-later, films-later, queue-later}
 use Rattle.promises.proofs.Standings.{AllFine, kept-fine, mandatory-fine, or-kept, code-given}
 use Rattle.promises.proofs.Films.{uids-set}
 
@@ -123,11 +123,13 @@ film-with n j l f e r h s =
 
 -- The films.
 
-shelf-set : (n m : Numbers) (s : Session) (shelf : Shelf) (i : ℕ) (f : Film) → Later n m → filmSound m f ≡ true → shelfSound n s shelf ≡ true → shelfSound m s (shelved (set (filmsOf shelf) i f)) ≡ true
-shelf-set n m s shelf i f later e g =
-    shelved-sound m s (set (filmsOf shelf) i f)
-    (rw (length-set (filmsOf shelf) i f) (films-few n s shelf g))
-    (every-set (filmSound m) (filmsOf shelf) i f (films-later n m later (filmsOf shelf) (shelf-facts n s shelf g .films)) (λ h. e))
+shelf-set : (n m : Numbers) (sessions : List Session) (shelf : Shelf) (i : ℕ) (f : Film) → Later n m → f .session ≡ getD (filmsOf shelf) i noFilm .session → filmSound m f ≡ true → shelfSound n sessions shelf ≡ true → shelfSound m sessions (shelved (set (filmsOf shelf) i f)) ≡ true
+shelf-set n m sessions shelf i f later own e g =
+    let t = shelf-facts n sessions shelf g in
+    shelved-sound m sessions (set (filmsOf shelf) i f)
+    (rw (length-set (filmsOf shelf) i f) (films-few n sessions shelf g))
+    (every-set (hasSession sessions) (filmsOf shelf) i f (t .owned) (λ h. rw own (every-at (hasSession sessions) (filmsOf shelf) i noFilm (t .owned) h)))
+    (every-set (filmSound m) (filmsOf shelf) i f (films-later n m later (filmsOf shelf) (t .films)) (λ h. e))
 
 pub box-set-sound : (k : Core) (i j : ℕ) (l : Listing) → coreSound k ≡ true → Kept (boxRules k i l) → i < length (filmsOf (k .shelf)) → j < boxCount (filmAt k i .layout) → coreSound (boxSet k i j l) ≡ true
 unfolding boxSet
@@ -138,16 +140,15 @@ box-set-sound k i j l e r h g =
     let f = filmAt k i in
     let boxes = set (f .boxes) j (boxWith (n .picture) l (getD (f .boxes) j noBox)) in
     let later = later-after (imageIn l) n in
-    let t = shelf-facts n (k .session) (k .shelf) (c .shelf) in
+    let t = shelf-facts n (sessionsOf k) (k .shelf) (c .shelf) in
     core-sound (boxSet k i j l) record {
       numbers = numbers-after (imageIn l) n (c .numbers) (r .1 .1 .1 .0);
-      live = c .live;
-      session = session-later n m later (k .session) (c .session);
+      sessions = sessions-later n m later (sessionsOf k) (c .sessions);
       shelf =
-          shelf-set n m (k .session) (k .shelf) i (withBoxes boxes f) later
+          shelf-set n m (sessionsOf k) (k .shelf) i (withBoxes boxes f) later refl
           (film-with n j l f (c .numbers) (r .0, (r .1 .0, (r .1 .1 .0, tt))) g (every-at (filmSound n) (filmsOf (k .shelf)) i noFilm (t .films) h))
           (c .shelf);
       queue = queue-later n m later (k .queue) (c .queue);
-      uids = ap (uidsApart (k .session)) (films-shelved (set (filmsOf (k .shelf)) i (withBoxes boxes f))) ∙ uids-set (k .session) (filmsOf (k .shelf)) i (withBoxes boxes f) refl refl refl (c .uids);
+      uids = ap (uidsApart (sessionsOf k)) (films-shelved (set (filmsOf (k .shelf)) i (withBoxes boxes f))) ∙ uids-set (sessionsOf k) (filmsOf (k .shelf)) i (withBoxes boxes f) refl refl refl (c .uids);
       opened = c .opened;
     }

@@ -18,25 +18,26 @@ use Rattle.rules.specs.declared.Numbers.{Numbers}
 use Rattle.rules.specs.declared.Opened.{Opened}
 use Rattle.rules.specs.declared.Core.{Core}
 use Rattle.rules.specs.Lists.{every, apart, filledTo}
-use Rattle.rules.specs.Records.{rootOf, filmsOf, entriesOf, shelved, noSession, notOpen}
+use Rattle.rules.specs.Records.{rootOf, filmsOf, entriesOf, shelved, noSession, notOpen, noSessions, withSessions, withSession, withFilms}
 use Rattle.rules.specs.Effects.{sessionDeleted}
-use Rattle.rules.specs.Sound.{between, numbersSound, serialsOf, uidsApart, sessionBlank, entrySound, filmSound, openedSound, coreSound}
-use Rattle.rules.specs.Calls.{Starting, Opening, badRoot, badNumber, badContext, badSyntax, messageWrong, startRules, openRules, withOpened, started, opened, closed, taken}
-use Rattle.promises.proofs.ListLaws.{all-holds, take-filled, behind-filled, every-nil, every-drop, films-shelved}
+use Rattle.rules.specs.Sound.{between, numbersSound, serialsOf, uidsApart, entrySound, filmSound, openedSound, coreSound, sessionPlaceSound, hasSession}
+use Rattle.rules.specs.Calls.{opened, Starting, Opening, badRoot, badNumber, badContext, badSyntax, messageWrong, startRules, openRules, withOpened, started, closed, taken}
+use Rattle.promises.proofs.ListLaws.{all-holds, take-filled, behind-filled, every-nil, every-drop, films-shelved, every-one}
 use Rattle.promises.proofs.Facts.{between-holds, core-facts, core-sound, numbers-sound, queue-facts, entries-few, shelved-sound, queued-sound}
+use Rattle.promises.proofs.Places.{films-beside}
 
 -- Nothing live.
 
-blank-session : sessionBlank noSession ≡ true
+blank-session : (n : Numbers) → sessionPlaceSound n noSession ≡ true
 unfolding every
-blank-session = refl
+blank-session n = refl
 
-nobody-apart : uidsApart noSession [] ≡ true
+nobody-apart : uidsApart noSessions [] ≡ true
 unfolding uidsApart apart serialsOf every
 nobody-apart = refl
 
-shelf-apart : uidsApart noSession (filmsOf (shelved [])) ≡ true
-shelf-apart = ap (uidsApart noSession) (films-shelved []) ∙ nobody-apart
+shelf-apart : uidsApart noSessions (filmsOf (shelved [])) ≡ true
+shelf-apart = ap (uidsApart noSessions) (films-shelved []) ∙ nobody-apart
 
 not-open : openedSound notOpen ≡ true
 unfolding openedSound every
@@ -44,28 +45,31 @@ not-open = refl
 
 -- A session deleted, and close.
 
-pub session-deleted-sound : (k : Core) → coreSound k ≡ true → coreSound (sessionDeleted k) ≡ true
-unfolding sessionDeleted
-session-deleted-sound k e =
+nothing-left : (k : Core) → coreSound k ≡ true → coreSound (withSessions noSessions (withFilms [] k)) ≡ true
+nothing-left k e =
     let f = core-facts k e in
-    core-sound (sessionDeleted k) record {
+    core-sound (withSessions noSessions (withFilms [] k)) record {
       numbers = f .numbers;
-      live = refl;
-      session = blank-session;
-      shelf = shelved-sound (k .numbers) noSession [] (omega arith) (every-nil (filmSound (k .numbers)));
+      sessions = every-one (sessionPlaceSound (k .numbers)) noSession (blank-session (k .numbers));
+      shelf = shelved-sound (k .numbers) noSessions [] (omega arith) (every-nil (hasSession noSessions)) (every-nil (filmSound (k .numbers)));
       queue = f .queue;
       uids = shelf-apart;
       opened = f .opened;
     }
 
+-- while there is one place, nothing is left beside its session
+pub session-deleted-sound : (k : Core) → coreSound k ≡ true → coreSound (sessionDeleted k 0) ≡ true
+unfolding sessionDeleted
+session-deleted-sound k e = ap (λ films. coreSound (withSession 0 noSession (withFilms films k))) (films-beside k e) ∙ nothing-left k e
+
 with-opened : (k : Core) (o : Opened) → coreSound k ≡ true → openedSound o ≡ true → coreSound (withOpened o k) ≡ true
 with-opened k o e h =
     let f = core-facts k e in
-    core-sound (withOpened o k) record { numbers = f .numbers; live = f .live; session = f .session; shelf = f .shelf; queue = f .queue; uids = f .uids; opened = h }
+    core-sound (withOpened o k) record { numbers = f .numbers; sessions = f .sessions; shelf = f .shelf; queue = f .queue; uids = f .uids; opened = h }
 
 pub closed-sound : (k : Core) → coreSound k ≡ true → coreSound (closed k) ≡ true
-unfolding closed sessionDeleted
-closed-sound k e = with-opened (sessionDeleted k) notOpen (session-deleted-sound k e) not-open
+unfolding closed
+closed-sound k e = with-opened (withSessions noSessions (withFilms [] k)) notOpen (nothing-left k e) not-open
 
 -- Take.
 
@@ -79,8 +83,7 @@ taken-sound k e =
     let f = core-facts k e in
     core-sound (taken k .0) record {
       numbers = f .numbers;
-      live = f .live;
-      session = f .session;
+      sessions = f .sessions;
       shelf = f .shelf;
       queue =
           queued-sound (k .numbers) (drop 1 (entriesOf (k .queue)))
@@ -128,9 +131,8 @@ started-sound h r =
     let n = startNumbers (h .root) (h .serial) (h .picture) in
     core-sound (started h) record {
       numbers = start-numbers (h .root) (h .serial) (h .picture) (r .0) (t .0) (t .1);
-      live = refl;
-      session = blank-session;
-      shelf = shelved-sound n noSession [] (omega arith) (every-nil (filmSound n));
+      sessions = every-one (sessionPlaceSound n) noSession (blank-session n);
+      shelf = shelved-sound n noSessions [] (omega arith) (every-nil (hasSession noSessions)) (every-nil (filmSound n));
       queue = queued-sound n [] (omega arith) (every-nil (entrySound n));
       uids = shelf-apart;
       opened = not-open;

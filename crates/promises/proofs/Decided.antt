@@ -19,7 +19,7 @@ use Rattle.rules.specs.declared.Command.the-variants.{Unreadable, Unknown, Know
 use Rattle.rules.specs.declared.Request.{Request}
 use Rattle.rules.specs.declared.Instance.{Instance}
 use Rattle.rules.specs.declared.Instance.the-variants.{Nobody, TheSession, TheFilm, TheBox}
-use Rattle.rules.specs.Records.{sentName, named, filmsOf, syntaxIn}
+use Rattle.rules.specs.Records.{sentName, named, syntaxIn, filmsUnder}
 use Rattle.rules.specs.Commands.{uidAt, understood}
 use Rattle.rules.specs.Attributes.{Listing, listingOf, attributeRules, sessionStandings, filmSetStandings}
 use Rattle.rules.specs.Responses.{Reply}
@@ -38,12 +38,12 @@ pub record After (P : Core → Type 0) (k : Core) : Type 0 where
   pub kept : P k
   pub newSession : (c : List ℕ) (sent : Part) (l : Listing) → Kept (createRules k c sent) → Kept (newSessionRules k (sentUid c sent) l) → P (sessionCreated k (sentUid c sent) l)
   pub newFilm : (c : List ℕ) (sent : Part) (l : Listing) → Kept (createRules k c sent) → Kept (newFilmRules k (sentUid c sent) l) → P (filmCreated k (sentUid c sent) l)
-  pub setSession : (uid : List ℕ) (l : Listing) → named k uid ≡ TheSession → Kept (attributeRules (sessionStandings l)) → P (sessionSet k l)
+  pub setSession : (uid : List ℕ) (l : Listing) → named k uid ≡ TheSession → Kept (attributeRules (sessionStandings l)) → P (sessionSet k 0 l)
   pub setFilm : (uid : List ℕ) (i : ℕ) (l : Listing) → named k uid ≡ TheFilm i → Kept (attributeRules (filmSetStandings l)) → P (filmSet k i l)
   pub setBox : (uid : List ℕ) (i j : ℕ) (l : Listing) → named k uid ≡ TheBox i j → Kept (boxRules k i l) → P (boxSet k i j l)
-  pub printSession : (uid : List ℕ) → named k uid ≡ TheSession → Kept (sessionPrintRules k) → P (printed k (filmsOf (k .shelf)))
+  pub printSession : (uid : List ℕ) → named k uid ≡ TheSession → Kept (sessionPrintRules k 0) → P (printed k (filmsUnder 0 (k .shelf)))
   pub printFilm : (uid : List ℕ) (i : ℕ) → named k uid ≡ TheFilm i → Kept (filmPrintRules k i) → P (printed k (filmAt k i ∷ []))
-  pub noSession : (uid : List ℕ) → named k uid ≡ TheSession → P (sessionDeleted k)
+  pub noSession : (uid : List ℕ) → named k uid ≡ TheSession → P (sessionDeleted k 0)
   pub noFilm : (uid : List ℕ) (i : ℕ) → named k uid ≡ TheFilm i → P (filmDeleted k i)
 
 -- every effect, under one name

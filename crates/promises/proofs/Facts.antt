@@ -3,7 +3,7 @@
 use Prim.Native.Nat.{ℕ, _+_, _≤_}
 use mathlib.Core.Path.{_≡_, ap, _∙_}
 use mathlib.Core.Bool.{Bool, true, false}
-use mathlib.Core.List.{List}
+use mathlib.Core.List.{List, []}
 use native.Mathlib.Omega.{arith}
 use lib.Dec.{eqb, leb, ltb}
 use lib.ListN.{length, take, drop, length-take}
@@ -25,9 +25,9 @@ use Rattle.rules.specs.declared.Numbers.{Numbers}
 use Rattle.rules.specs.declared.Core.{Core}
 use Rattle.rules.specs.Lists.{every}
 use Rattle.rules.specs.Values.{trimmed, labelAllowed}
-use Rattle.rules.specs.Records.{rootOf, uidOf, boxCount, boxesOf, filmsOf, entriesOf, isLive, shelved, queued}
-use Rattle.rules.specs.Sound.{between, zeros, flag, sentSound, madeSound, nameSound, numbersSound, sessionSound, sessionBlank, layoutSound, boxSound, boxBlank, filmSound, filmBlank, shelfSound, entrySound, entryBlank, queueSound, uidsApart, openedSound, coreSound}
-use Rattle.promises.proofs.ListLaws.{all-true, all-holds, films-behind, entries-behind, films-shelved, entries-queued}
+use Rattle.rules.specs.Records.{rootOf, uidOf, boxCount, boxesOf, filmsOf, entriesOf, isLive, shelved, queued, sessionsOf, theSession}
+use Rattle.rules.specs.Sound.{between, zeros, flag, sentSound, madeSound, nameSound, numbersSound, sessionSound, sessionBlank, layoutSound, boxSound, boxBlank, filmSound, filmBlank, shelfSound, entrySound, entryBlank, queueSound, uidsApart, openedSound, coreSound, sessionPlaceSound, hasSession}
+use Rattle.promises.proofs.ListLaws.{all-true, all-holds, every-parts, films-behind, entries-behind, films-shelved, entries-queued}
 
 pub between-true : (low high n : ℕ) → between low high n ≡ true → (low ≤ n) × (n ≤ high)
 between-true low high n e =
@@ -41,11 +41,10 @@ between-holds low high n h k = both-holds (leb low n) (leb n high) (le-leb low n
 
 pub record CoreFacts (k : Core) : Type 0 where
   pub numbers : numbersSound (k .numbers) ≡ true
-  pub live : flag (k .session .live) ≡ true
-  pub session : pick (isLive (k .session)) (sessionSound (k .numbers) (k .session)) (sessionBlank (k .session)) ≡ true
-  pub shelf : shelfSound (k .numbers) (k .session) (k .shelf) ≡ true
+  pub sessions : every (sessionPlaceSound (k .numbers)) (sessionsOf k) ≡ true
+  pub shelf : shelfSound (k .numbers) (sessionsOf k) (k .shelf) ≡ true
   pub queue : queueSound (k .numbers) (k .queue) ≡ true
-  pub uids : uidsApart (k .session) (filmsOf (k .shelf)) ≡ true
+  pub uids : uidsApart (sessionsOf k) (filmsOf (k .shelf)) ≡ true
   pub opened : openedSound (k .opened) ≡ true
 
 pub core-facts : (k : Core) → coreSound k ≡ true → CoreFacts k
@@ -54,17 +53,16 @@ core-facts k e =
     let t = all-true _ e in
     record {
       numbers = t .0;
-      live = t .1 .0;
-      session = t .1 .1 .0;
-      shelf = t .1 .1 .1 .0;
-      queue = t .1 .1 .1 .1 .0;
-      uids = t .1 .1 .1 .1 .1 .0;
-      opened = t .1 .1 .1 .1 .1 .1 .0;
+      sessions = t .1 .0;
+      shelf = t .1 .1 .0;
+      queue = t .1 .1 .1 .0;
+      uids = t .1 .1 .1 .1 .0;
+      opened = t .1 .1 .1 .1 .1 .0;
     }
 
 pub core-sound : (k : Core) → CoreFacts k → coreSound k ≡ true
 unfolding coreSound
-core-sound k f = all-holds _ (f .numbers, (f .live, (f .session, (f .shelf, (f .queue, (f .uids, (f .opened, tt)))))))
+core-sound k f = all-holds _ (f .numbers, (f .sessions, (f .shelf, (f .queue, (f .uids, (f .opened, tt))))))
 
 -- The numbers.
 
@@ -108,27 +106,29 @@ name-uid n name e h = by (eqb (name .made .0) 0) h
 
 -- The films.
 
-pub record ShelfFacts (n : Numbers) (s : Session) (shelf : Shelf) : Type 0 where
-  pub count : leb (shelf .count) (pick (isLive s) mostFilms 0) ≡ true
+pub record ShelfFacts (n : Numbers) (sessions : List Session) (shelf : Shelf) : Type 0 where
+  pub count : leb (shelf .count) mostFilms ≡ true
+  pub owned : every (hasSession sessions) (filmsOf shelf) ≡ true
   pub films : every (filmSound n) (filmsOf shelf) ≡ true
   pub behind : every filmBlank (drop (shelf .count) (shelf .films)) ≡ true
 
-pub shelf-facts : (n : Numbers) (s : Session) (shelf : Shelf) → shelfSound n s shelf ≡ true → ShelfFacts n s shelf
+pub shelf-facts : (n : Numbers) (sessions : List Session) (shelf : Shelf) → shelfSound n sessions shelf ≡ true → ShelfFacts n sessions shelf
 unfolding shelfSound
-shelf-facts n s shelf e =
+shelf-facts n sessions shelf e =
     let t = all-true _ e in
-    record { count = t .0; films = t .1 .0; behind = t .1 .1 .0 }
+    record { count = t .0; owned = t .1 .0; films = t .1 .1 .0; behind = t .1 .1 .1 .0 }
 
-pub shelf-sound : (n : Numbers) (s : Session) (shelf : Shelf) → ShelfFacts n s shelf → shelfSound n s shelf ≡ true
+pub shelf-sound : (n : Numbers) (sessions : List Session) (shelf : Shelf) → ShelfFacts n sessions shelf → shelfSound n sessions shelf ≡ true
 unfolding shelfSound
-shelf-sound n s shelf f = all-holds _ (f .count, (f .films, (f .behind, tt)))
+shelf-sound n sessions shelf f = all-holds _ (f .count, (f .owned, (f .films, (f .behind, tt))))
 
 -- films on a shelf anew
-pub shelved-sound : (n : Numbers) (s : Session) (films : List Film) → length films ≤ pick (isLive s) mostFilms 0 → every (filmSound n) films ≡ true → shelfSound n s (shelved films) ≡ true
+pub shelved-sound : (n : Numbers) (sessions : List Session) (films : List Film) → length films ≤ mostFilms → every (hasSession sessions) films ≡ true → every (filmSound n) films ≡ true → shelfSound n sessions (shelved films) ≡ true
 unfolding shelved
-shelved-sound n s films h e =
-    shelf-sound n s (shelved films) record {
-      count = le-leb (length films) (pick (isLive s) mostFilms 0) h;
+shelved-sound n sessions films h o e =
+    shelf-sound n sessions (shelved films) record {
+      count = le-leb (length films) mostFilms h;
+      owned = ap (every (hasSession sessions)) (films-shelved films) ∙ o;
       films = ap (every (filmSound n)) (films-shelved films) ∙ e;
       behind = films-behind films;
     }
@@ -160,13 +160,9 @@ queued-sound n entries h e =
       behind = entries-behind entries;
     }
 
--- how many films there may be
-abbrev pub filmRoom : Session → ℕ
-filmRoom s = pick (isLive s) mostFilms 0
-
-pub films-few : (n : Numbers) (s : Session) (shelf : Shelf) → shelfSound n s shelf ≡ true → length (filmsOf shelf) ≤ filmRoom s
+pub films-few : (n : Numbers) (sessions : List Session) (shelf : Shelf) → shelfSound n sessions shelf ≡ true → length (filmsOf shelf) ≤ mostFilms
 unfolding filmsOf
-films-few n s shelf e = let c = leb-true (shelf .count) (filmRoom s) (shelf-facts n s shelf e .count) in simp length-take (omega arith)
+films-few n sessions shelf e = let c = leb-true (shelf .count) mostFilms (shelf-facts n sessions shelf e .count) in simp length-take (omega arith)
 
 pub entries-few : (n : Numbers) (q : Queue) → queueSound n q ≡ true → length (entriesOf q) ≤ mostEntries
 unfolding entriesOf
@@ -222,9 +218,13 @@ session-sound n s e f =
     all-holds _
     (e, (f .copies, (f .priority, (f .medium, (f .destination, (f .label .short, (f .label .allowed, (f .label .bare, (f .label .behind, tt)))))))))
 
--- the session of the records, where it is live
-pub live-facts : (n : Numbers) (s : Session) → pick (isLive s) (sessionSound n s) (sessionBlank s) ≡ true → isLive s ≡ true → (nameSound n (s .name) ≡ true) × ValueFacts s
-live-facts n s e l = session-facts n s (rw l at e)
+-- a place whose session is live
+pub live-facts : (n : Numbers) (s : Session) → sessionPlaceSound n s ≡ true → isLive s ≡ true → (nameSound n (s .name) ≡ true) × ValueFacts s
+live-facts n s e l = let b = both-true (flag (s .live)) (pick (isLive s) (sessionSound n s) (sessionBlank s)) e .1 in session-facts n s (rw l at b)
+
+-- the only place
+pub the-place : (k : Core) → CoreFacts k → sessionPlaceSound (k .numbers) (theSession k) ≡ true
+the-place k f = every-parts (sessionPlaceSound (k .numbers)) (theSession k) [] (f .sessions) .0
 
 -- A film and its boxes.
 

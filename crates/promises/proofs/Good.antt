@@ -1,7 +1,7 @@
 -- Records that keep their rules, with arrays of their lengths, fit their fields: packed and unpacked, they are the same.
 -- Assumes nothing.
 use Prim.Native.Nat.{ℕ, suc, _+_, _<_, _≤_}
-use mathlib.Core.Path.{_≡_, refl, subst}
+use mathlib.Core.Path.{_≡_, refl, subst, sym, ap, _∙_}
 use mathlib.Core.Bool.{Bool, true, false}
 use mathlib.Core.List.{List, [], _∷_, _++_, append-assoc}
 use native.Mathlib.Omega.{arith}
@@ -17,7 +17,7 @@ use Rattle.fields.specs.Format.{Format, byte, array, write}
 use Rattle.fields.proofs.Laws.{read-write}
 use Rattle.strike.specs.Machine as machine
 use Rattle.strike.specs.Machine.{commandLimit, idle, inCommand, skippingCommand, inData, skippingData, Records}
-use Rattle.rules.specs.Bounds.{leastRoom, mostRoom, mostFilms, mostBoxes, mostEntries, rootLimit, noneLeft}
+use Rattle.rules.specs.Bounds.{leastRoom, mostRoom, mostFilms, mostBoxes, mostEntries, rootLimit, noneLeft, mostSessions}
 use Rattle.rules.specs.declared.Picture.{Picture}
 use Rattle.rules.specs.declared.Name.{Name}
 use Rattle.rules.specs.declared.Session.{Session}
@@ -33,17 +33,18 @@ use Rattle.rules.specs.declared.Core.{Core}
 use Rattle.rules.specs.declared.Input.{Input}
 use Rattle.rules.specs.Lists.{every, filledTo}
 use Rattle.rules.specs.Values.{trimmed, labelByte, labelAllowed, kindCol}
-use Rattle.rules.specs.Records.{rootOf, boxCount, boxesOf, filmsOf, entriesOf, isLive}
-use Rattle.rules.specs.Sound.{between, zeros, flag, nameSound, sentSound, madeSound, nameBlank, numbersSound, sessionSound, sessionBlank, layoutSound, boxSound, boxBlank, filmSound, filmBlank, shelfSound, entrySound, entryBlank, queueSound, openSound, openedSound, coreSound}
+use Rattle.rules.specs.Records.{rootOf, boxCount, boxesOf, filmsOf, entriesOf, isLive, sessionsOf, noSession}
+use Rattle.rules.specs.Sound.{between, zeros, flag, nameSound, sentSound, madeSound, nameBlank, numbersSound, sessionSound, sessionBlank, layoutSound, boxSound, boxBlank, filmSound, filmBlank, shelfSound, entrySound, entryBlank, queueSound, openSound, openedSound, coreSound, sessionPlaceSound, hasSession}
 use Rattle.rules.specs.Layout.{serialFormat, pictureFormat, nameFormat, sessionFormat, boxFormat, layoutFormat, filmFormat, shelfFormat, entryFormat, queueFormat, numbersFormat, openedFormat, coreFormat, inputFormat, stateFormat, recordsSize, unpack, pack}
 use Rattle.rules.specs.Outcomes.{held, inputHeld, written}
 use Rattle.rules.proofs.Sizes.{records-size}
 use Rattle.promises.proofs.Packed.{state-laws}
-use Rattle.promises.proofs.ListLaws.{all-true, Each, each-at, each-append, each-take, each-drop, each-join, each-filled, each-told, each-so, filled-length}
+use Rattle.promises.proofs.ListLaws.{all-true, Each, each-at, each-append, each-take, each-drop, each-join, each-filled, each-told, each-so, filled-length, places-read}
 use Rattle.promises.proofs.Facts.{between-true, core-facts, numbers-facts, shelf-facts, queue-facts, LabelFacts, session-facts, box-facts, film-facts}
 use Rattle.promises.proofs.Layouts.{boxes-most, sum-between}
 use Rattle.promises.proofs.Kept.{stateOf}
-use Rattle.promises.proofs.Sized.{NameSized, SessionSized, FilmSized, ShelfSized, EntrySized, QueueSized, NumbersSized, Sized}
+use Rattle.promises.proofs.Sized.{NameSized, SessionSized, FilmSized, ShelfSized, EntrySized, QueueSized, NumbersSized, Sized, SessionsSized}
+use Rattle.promises.proofs.Places.{place-there}
 
 -- Arrays.
 
@@ -180,8 +181,16 @@ session-cases : (n : Numbers) (s : Session) (live : Bool) → n .serial ≤ none
 session-cases n s true h k e z = live-fits n s h k e z
 session-cases n s false h k e z = no-session-fits s k e z
 
-pub good-session : (n : Numbers) (s : Session) → n .serial ≤ noneLeft → flag (s .live) ≡ true → pick (isLive s) (sessionSound n s) (sessionBlank s) ≡ true → SessionSized s → sessionFormat .Good s
-good-session n s h live e z = session-cases n s (isLive s) h (leb-true (s .live) 1 live) e z
+pub good-session : (n : Numbers) (s : Session) → n .serial ≤ noneLeft → sessionPlaceSound n s ≡ true → SessionSized s → sessionFormat .Good s
+good-session n s h e z =
+    let b = both-true (flag (s .live)) (pick (isLive s) (sessionSound n s) (sessionBlank s)) e in
+    session-cases n s (isLive s) h (leb-true (s .live) 1 (b .0)) (b .1) z
+
+good-sessions : (k : Core) → k .numbers .serial ≤ noneLeft → every (sessionPlaceSound (k .numbers)) (sessionsOf k) ≡ true → SessionsSized (k .sessions) → array mostSessions sessionFormat .Good (k .sessions)
+good-sessions k h e z =
+    let all-places = places-read mostSessions (k .sessions) noSession (z .places) in
+    good-array sessionFormat mostSessions (k .sessions) (z .places)
+    (each-so SessionSized (sessionPlaceSound (k .numbers)) (sessionFormat .Good) (λ s t y. good-session (k .numbers) s h t y) (k .sessions) (ap (every (sessionPlaceSound (k .numbers))) (sym all-places) ∙ e) (z .each))
 
 -- Layouts.
 
@@ -248,9 +257,9 @@ good-no-box b e =
 
 -- Films.
 
-pub good-film : (n : Numbers) (f : Film) → n .serial ≤ noneLeft → n .picture ≤ noneLeft → filmSound n f ≡ true → FilmSized f → filmFormat .Good f
+pub good-film : (n : Numbers) (f : Film) → n .serial ≤ noneLeft → n .picture ≤ noneLeft → Byte (f .session) → filmSound n f ≡ true → FilmSized f → filmFormat .Good f
 unfolding filmFormat serialFormat boxesOf
-good-film n f h k e z =
+good-film n f h k own e z =
     let t = film-facts n f e in
     let count = boxCount (f .layout) in
     let some = box-count (f .layout) (t .layout) (z .counts) in
@@ -259,17 +268,20 @@ good-film n f h k e z =
     let last = leb-true (f .first .0 + count) (n .serial) (t .last) in (
       good-name n (f .name) h (t .name) (z .name),
       (
-        good-layout (f .layout) (t .layout) (z .counts),
+        own,
         (
-          omega arith,
+          good-layout (f .layout) (t .layout) (z .counts),
           (
             omega arith,
             (
-              omega (arith, some .0),
-              good-array boxFormat mostBoxes (f .boxes) (z .boxes)
-                  (each-join (boxFormat .Good) count (f .boxes)
-                  (each-told (boxFormat .Good) (boxSound count n) (λ b s. good-box count n b (some .1) k s) (take count (f .boxes)) (t .boxes))
-                  (each-told (boxFormat .Good) boxBlank good-no-box (drop count (f .boxes)) (t .behind))),
+              omega arith,
+              (
+                omega (arith, some .0),
+                good-array boxFormat mostBoxes (f .boxes) (z .boxes)
+                    (each-join (boxFormat .Good) count (f .boxes)
+                    (each-told (boxFormat .Good) (boxSound count n) (λ b s. good-box count n b (some .1) k s) (take count (f .boxes)) (t .boxes))
+                    (each-told (boxFormat .Good) boxBlank good-no-box (drop count (f .boxes)) (t .behind))),
+              ),
             ),
           ),
         ),
@@ -279,40 +291,41 @@ good-film n f h k e z =
 pub good-no-film : (f : Film) → filmBlank f ≡ true → FilmSized f → filmFormat .Good f
 unfolding filmFormat serialFormat layoutFormat
 good-no-film f e z =
-    let values : List ℕ = f .layout .kind ∷ f .layout .lines ∷ f .orientation ∷ f .magnification ∷ f .first .0 ∷ [] in
+    let values : List ℕ = f .session ∷ f .layout .kind ∷ f .layout .lines ∷ f .orientation ∷ f .magnification ∷ f .first .0 ∷ [] in
     let t = all-true _ e in
     let v = zero-bytes values (t .1 .0) in (
       good-no-name (f .name) (t .0) (z .name),
       (
-        (v .0, (v .1 .0, good-array byte 6 (f .layout .counts) (z .counts) (zero-bytes (f .layout .counts) (t .1 .1 .0)))),
+        v .0,
         (
-          v .1 .1 .0,
+          (v .1 .0, (v .1 .1 .0, good-array byte 6 (f .layout .counts) (z .counts) (zero-bytes (f .layout .counts) (t .1 .1 .0)))),
           (
             v .1 .1 .1 .0,
             (
-              omega (arith, v .1 .1 .1 .1 .0),
-              good-array boxFormat mostBoxes (f .boxes) (z .boxes) (each-told (boxFormat .Good) boxBlank good-no-box (f .boxes) (t .1 .1 .1 .0)),
+              v .1 .1 .1 .1 .0,
+              (
+                omega (arith, v .1 .1 .1 .1 .1 .0),
+                good-array boxFormat mostBoxes (f .boxes) (z .boxes) (each-told (boxFormat .Good) boxBlank good-no-box (f .boxes) (t .1 .1 .1 .0)),
+              ),
             ),
           ),
         ),
       ),
     )
 
-most-films : (live : Bool) (count : ℕ) → leb count (pick live mostFilms 0) ≡ true → count ≤ mostFilms
-most-films true count e = leb-true count mostFilms e
-most-films false count e = let h = leb-true count 0 e in omega arith
-
-pub good-shelf : (n : Numbers) (s : Session) (shelf : Shelf) → n .serial ≤ noneLeft → n .picture ≤ noneLeft → shelfSound n s shelf ≡ true → ShelfSized shelf → shelfFormat .Good shelf
+pub good-shelf : (n : Numbers) (sessions : List Session) (shelf : Shelf) → length sessions ≤ 256 → n .serial ≤ noneLeft → n .picture ≤ noneLeft → shelfSound n sessions shelf ≡ true → ShelfSized shelf → shelfFormat .Good shelf
 unfolding shelfFormat filmsOf
-good-shelf n s shelf h k e z =
-    let t = shelf-facts n s shelf e in
-    let few = most-films (isLive s) (shelf .count) (t .count) in
+good-shelf n sessions shelf places h k e z =
+    let t = shelf-facts n sessions shelf e in
+    let few = leb-true (shelf .count) mostFilms (t .count) in
     let front = take (shelf .count) (shelf .films) in
-    let behind = drop (shelf .count) (shelf .films) in (
+    let behind = drop (shelf .count) (shelf .films) in
+    let Fits : Film → Type 0 = λ f. FilmSized f × Byte (f .session) in
+    let fit : Each Fits front = each-so FilmSized (hasSession sessions) Fits (λ f o s. (s, omega (arith, place-there sessions (f .session) o))) front (t .owned) (each-take FilmSized (shelf .count) (shelf .films) (z .each)) in (
       omega arith,
       good-array filmFormat mostFilms (shelf .films) (z .films)
           (each-join (filmFormat .Good) (shelf .count) (shelf .films)
-          (each-so FilmSized (filmSound n) (filmFormat .Good) (λ f. good-film n f h k) front (t .films) (each-take FilmSized (shelf .count) (shelf .films) (z .each)))
+          (each-so Fits (filmSound n) (filmFormat .Good) (λ f s p. good-film n f h k (p .1) s (p .0)) front (t .films) fit)
           (each-so FilmSized filmBlank (filmFormat .Good) good-no-film behind (t .behind) (each-drop FilmSized (shelf .count) (shelf .films) (z .each)))),
     )
 
@@ -383,9 +396,9 @@ good-core k e z =
     let picture = between-true 1 noneLeft (k .numbers .picture) (n .picture) .1 in (
       good-numbers (k .numbers) (f .numbers) (z .numbers),
       (
-        good-session (k .numbers) (k .session) serial (f .live) (f .session) (z .session),
+        good-sessions k serial (f .sessions) (z .sessions),
         (
-          good-shelf (k .numbers) (k .session) (k .shelf) serial picture (f .shelf) (z .shelf),
+          good-shelf (k .numbers) (sessionsOf k) (k .shelf) (omega arith) serial picture (f .shelf) (z .shelf),
           (good-queue (k .numbers) (k .queue) serial picture (f .queue) (z .queue), good-opened (k .opened) (f .opened)),
         ),
       ),

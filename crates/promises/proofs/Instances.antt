@@ -16,7 +16,7 @@ use Rattle.rules.specs.declared.Core.{Core}
 use Rattle.rules.specs.Lists.{any, placeOf, from}
 use Rattle.rules.specs.declared.Instance.{Instance}
 use Rattle.rules.specs.declared.Instance.the-variants.{Nobody, TheSession, TheFilm, TheBox}
-use Rattle.rules.specs.Records.{rootOf, uidOf, isLive, boxCount, filmsOf, noFilm, boxUids, filmNamed, boxNamed, boxOf, named}
+use Rattle.rules.specs.Records.{rootOf, uidOf, isLive, boxCount, filmsOf, noFilm, boxUids, filmNamed, boxNamed, boxOf, named, theSession}
 use Rattle.rules.specs.Effects.{filmAt}
 use Rattle.rules.specs.Checks.{isNobody}
 use Rattle.promises.proofs.ListLaws.{place-below, place-passes, from-length}
@@ -24,7 +24,7 @@ use Rattle.promises.proofs.ListLaws.{place-below, place-passes, from-le
 -- an instance is there: the session is live, the film and the box have their places
 abbrev pub There : Core → Instance → Type 0
 There k Nobody = Unit {0}
-There k TheSession = isLive (k .session) ≡ true
+There k TheSession = isLive (theSession k) ≡ true
 There k (TheFilm i) = i < length (filmsOf (k .shelf))
 There k (TheBox i j) = (i < length (filmsOf (k .shelf))) × (j < boxCount (filmAt k i .layout))
 
@@ -57,8 +57,8 @@ module _ (k : Core) (uid : List ℕ) where
       let films = filmsOf (k .shelf) in
       let n = k .numbers in
       let i = placeOf (boxNamed n uid) films in
-      pick-cases (There k) (both (isLive (k .session)) (same uid (uidOf n (k .session .name)))) TheSession _
-      (λ e. both-true (isLive (k .session)) (same uid (uidOf n (k .session .name))) e .0)
+      pick-cases (There k) (both (isLive (theSession k)) (same uid (uidOf n (theSession k .name)))) TheSession _
+      (λ e. both-true (isLive (theSession k)) (same uid (uidOf n (theSession k .name))) e .0)
       (λ a.
       pick-cases (There k) (any (filmNamed n uid) films) (TheFilm (placeOf (filmNamed n uid) films)) _
       (λ e. place-below (filmNamed n uid) films e)
@@ -67,7 +67,7 @@ module _ (k : Core) (uid : List ℕ) where
       (λ e. (place-below (boxNamed n uid) films e, box-there n uid (getD films i noFilm) (place-passes (boxNamed n uid) films noFilm e)))
       (λ c. tt)))
 
-  pub named-session : named k uid ≡ TheSession → isLive (k .session) ≡ true
+  pub named-session : named k uid ≡ TheSession → isLive (theSession k) ≡ true
   named-session e = subst (There k) e named-there
 
   pub named-film : (i : ℕ) → named k uid ≡ TheFilm i → i < length (filmsOf (k .shelf))
@@ -85,8 +85,8 @@ nobody-picked false false true p x y e = absurd (clash refl e)
 nobody-picked false false false p x y e = (refl, refl, refl)
 
 pub nobody-named : (k : Core) (uid : List ℕ) → isNobody (named k uid) ≡ true
-    → (both (isLive (k .session)) (same uid (uidOf (k .numbers) (k .session .name))) ≡ false)
+    → (both (isLive (theSession k)) (same uid (uidOf (k .numbers) (theSession k .name))) ≡ false)
     × (any (filmNamed (k .numbers) uid) (filmsOf (k .shelf)) ≡ false)
     × (any (boxNamed (k .numbers) uid) (filmsOf (k .shelf)) ≡ false)
 unfolding named
-nobody-named k uid e = nobody-picked (both (isLive (k .session)) (same uid (uidOf (k .numbers) (k .session .name)))) (any (filmNamed (k .numbers) uid) (filmsOf (k .shelf))) (any (boxNamed (k .numbers) uid) (filmsOf (k .shelf))) _ _ _ e
+nobody-named k uid e = nobody-picked (both (isLive (theSession k)) (same uid (uidOf (k .numbers) (theSession k .name)))) (any (filmNamed (k .numbers) uid) (filmsOf (k .shelf))) (any (boxNamed (k .numbers) uid) (filmsOf (k .shelf))) _ _ _ e

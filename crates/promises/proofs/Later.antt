@@ -21,9 +21,10 @@ use Rattle.rules.specs.Bounds.{noneLeft}
 use Rattle.rules.specs.Lists.{every}
 use Rattle.rules.specs.Records.{rootOf, boxCount, boxesOf, isLive, filmsOf, serialsUsed}
 use Rattle.rules.specs.Effects.{tooFewSerials}
-use Rattle.rules.specs.Sound.{numbersSound, nameSound, sentSound, madeSound, boxSound, filmSound, shelfSound, entrySound, queueSound, sessionSound, sessionBlank}
+use Rattle.rules.specs.Sound.{numbersSound, nameSound, sentSound, madeSound, boxSound, filmSound, shelfSound, entrySound, queueSound, sessionSound, sessionBlank, sessionPlaceSound, flag}
 use Rattle.promises.proofs.ListLaws.{all-true, all-holds, every-so}
 use Rattle.promises.proofs.Facts.{between-holds, numbers-facts, numbers-sound, counted, shelf-facts, shelf-sound, queue-facts, queue-sound, session-facts, session-sound, box-facts, box-sound, film-facts, film-sound}
+use Rattle.choice.proofs.Picks.{both-true, both-holds}
 
 -- numbers of the same root, none of them lower
 pub record Later (n m : Numbers) : Type 0 where
@@ -58,8 +59,14 @@ module _ (n m : Numbers) (later : Later n m) where
   sound-later : (s : Session) → sessionSound n s ≡ true → sessionSound m s ≡ true
   sound-later s e = let f = session-facts n s e in session-sound m s (name-later (s .name) (f .0)) (f .1)
 
-  pub session-later : (s : Session) → pick (isLive s) (sessionSound n s) (sessionBlank s) ≡ true → pick (isLive s) (sessionSound m s) (sessionBlank s) ≡ true
-  session-later s = pick-both (isLive s) (sessionSound n s) (sessionBlank s) (sessionSound m s) (sessionBlank s) (sound-later s) (λ e. e)
+  place-later : (s : Session) → sessionPlaceSound n s ≡ true → sessionPlaceSound m s ≡ true
+  place-later s e =
+      let b = both-true (flag (s .live)) (pick (isLive s) (sessionSound n s) (sessionBlank s)) e in
+      both-holds (flag (s .live)) (pick (isLive s) (sessionSound m s) (sessionBlank s)) (b .0)
+      (pick-both (isLive s) (sessionSound n s) (sessionBlank s) (sessionSound m s) (sessionBlank s) (sound-later s) (λ t. t) (b .1))
+
+  pub sessions-later : (sessions : List Session) → every (sessionPlaceSound n) sessions ≡ true → every (sessionPlaceSound m) sessions ≡ true
+  sessions-later sessions e = every-so (sessionPlaceSound n) (sessionPlaceSound m) place-later sessions e
 
   pub box-later : (boxes : ℕ) (b : ImageBox) → boxSound boxes n b ≡ true → boxSound boxes m b ≡ true
   box-later boxes b e =
@@ -83,10 +90,10 @@ module _ (n m : Numbers) (later : Later n m) where
   pub films-later : (films : List Film) → every (filmSound n) films ≡ true → every (filmSound m) films ≡ true
   films-later films e = every-so (filmSound n) (filmSound m) film-later films e
 
-  pub shelf-later : (s : Session) (shelf : Shelf) → shelfSound n s shelf ≡ true → shelfSound m s shelf ≡ true
-  shelf-later s shelf e =
-      let f = shelf-facts n s shelf e in
-      shelf-sound m s shelf record { count = f .count; films = films-later (filmsOf shelf) (f .films); behind = f .behind }
+  pub shelf-later : (sessions : List Session) (shelf : Shelf) → shelfSound n sessions shelf ≡ true → shelfSound m sessions shelf ≡ true
+  shelf-later sessions shelf e =
+      let f = shelf-facts n sessions shelf e in
+      shelf-sound m sessions shelf record { count = f .count; owned = f .owned; films = films-later (filmsOf shelf) (f .films); behind = f .behind }
 
   pub entry-later : (x : Entry) → entrySound n x ≡ true → entrySound m x ≡ true
   unfolding entrySound

@@ -2,6 +2,7 @@
 -- Lists, and what the rules of the records say.
 pub mod ListLaws
 pub mod Facts
+pub mod Places
 pub mod Later
 pub mod Standings
 pub mod Layouts

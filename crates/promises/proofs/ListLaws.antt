@@ -8,12 +8,12 @@ use native.Mathlib.Omega.{arith}
 use lib.Dec.{eqb}
 use lib.ListN.{length, getD, set, take, drop, replicate, length-append, length-replicate, take-append-drop}
 use lib.Seq.{take-append-seam, drop-append-seam}
-use Rattle.choice.specs.Pick.{pick, either}
-use Rattle.choice.proofs.Picks.{both-true, both-holds, either-false, clash}
+use Rattle.choice.specs.Pick.{pick, either, not}
+use Rattle.choice.proofs.Picks.{both-true, both-holds, either-false, clash, pick-cases, not-true}
 use Rattle.rules.specs.Bounds.{mostFilms, mostEntries}
 use Rattle.rules.specs.declared.Film.{Film}
 use Rattle.rules.specs.declared.Entry.{Entry}
-use Rattle.rules.specs.Lists.{every, any, placeOf, apart, filledTo, without, from}
+use Rattle.rules.specs.Lists.{every, any, placeOf, apart, filledTo, without, from, those, upTo}
 use Rattle.rules.specs.Records.{noFilm, noEntry, filmsOf, shelved, entriesOf, queued}
 use Rattle.rules.specs.Sound.{all, zeros, filmBlank, entryBlank}
 
@@ -147,9 +147,6 @@ module _ {A : Type 0} (P : A → Type 0) where
   -- of a list's front and of what is behind it
   pub each-join : (n : ℕ) (xs : List A) → Each P (take n xs) → Each P (drop n xs) → Each P xs
   each-join n xs h k = subst (Each P) (take-append-drop n xs) (each-append (take n xs) (drop n xs) h k)
-
-  pub each-without : (i : ℕ) (xs : List A) → Each P xs → Each P (without i xs)
-  each-without i xs h = each-append (take i xs) (drop (suc i) xs) (each-take i xs h) (each-drop (suc i) xs h)
 
   pub each-set : (xs : List A) (i : ℕ) (y : A) → Each P xs → P y → Each P (set xs i y)
   each-set [] i y h k = tt
@@ -381,3 +378,44 @@ films-behind films = behind-filled mostFilms noFilm films filmBlank film-blank
 
 pub entries-behind : (entries : List Entry) → every entryBlank (drop (length entries) (filledTo mostEntries noEntry entries)) ≡ true
 entries-behind entries = behind-filled mostEntries noEntry entries entryBlank entry-blank
+
+-- Those that pass a test.
+
+module _ {A : Type 0} (test : A → Bool) where
+  pub those-part : (xs : List A) → Part (those test xs) xs
+  unfolding those
+  those-part [] = done
+  those-part (x ∷ xs) = pick-cases (λ (ys : List A). Part ys (x ∷ xs)) (test x) (x ∷ those test xs) (those test xs) (λ e. keep (those-part xs)) (λ e. skip (those-part xs))
+
+  pub those-all : (xs : List A) → every test xs ≡ true → those test xs ≡ xs
+  unfolding those every
+  those-all [] e = refl
+  those-all (x ∷ xs) e = let b = both-true (test x) (every test xs) e in rw (b .0, those-all xs (b .1))
+
+  pub those-none : (xs : List A) → every (λ x. not (test x)) xs ≡ true → those test xs ≡ []
+  unfolding those every
+  those-none [] e = refl
+  those-none (x ∷ xs) e = let b = both-true (not (test x)) (every (λ y. not (test y)) xs) e in rw (not-true (test x) (b .0), those-none xs (b .1))
+
+pub part-length : {A : Type 0} {xs ys : List A} → Part xs ys → length xs ≤ length ys
+part-length done = omega arith
+part-length (skip p) = let h = part-length p in omega arith
+part-length (keep p) = let h = part-length p in omega arith
+
+pub each-part : {A : Type 0} (P : A → Type 0) {xs ys : List A} → Part xs ys → Each P ys → Each P xs
+each-part P done h = h
+each-part P (skip p) h = each-part P p (h .1)
+each-part P (keep p) h = (h .0, each-part P p (h .1))
+
+-- Places, read one by one.
+
+pub places-read : {A : Type 0} (n : ℕ) (xs : List A) (d : A) → length xs ≡ n → upTo n (λ i. getD xs i d) ≡ xs
+places-read zero [] d e = refl
+places-read zero (x ∷ xs) d e = absurd (omega arith)
+places-read (suc n) [] d e = absurd (omega arith)
+places-read (suc n) (x ∷ xs) d e = rw (places-read n xs d (omega arith))
+
+-- behind the same front
+pub part-front : {A : Type 0} (front : List A) {xs ys : List A} → Part xs ys → Part (front ++ xs) (front ++ ys)
+part-front [] p = p
+part-front (x ∷ front) p = keep (part-front front p)

@@ -25,13 +25,13 @@ use Rattle.rules.specs.declared.Numbers.{Numbers}
 use Rattle.rules.specs.declared.Core.{Core}
 use Rattle.rules.specs.Bounds.{noneLeft}
 use Rattle.rules.specs.Lists.{every, apart, from}
-use Rattle.rules.specs.Records.{rootOf, uidOf, boxCount, filmsOf, isLive, boxUids}
+use Rattle.rules.specs.Records.{rootOf, uidOf, boxCount, filmsOf, isLive, boxUids, sessionsOf, theSession}
 use Rattle.rules.specs.Sound.{nameSound, sentSound, madeSound, filmSound, Serials, overlap, ownSerial, serialsOf, sentText, sameText, uidsApart, coreSound}
 use Rattle.rules.specs.Calls.{handed, printing}
 use Rattle.rules.specs.Text.{chars}
 use Rattle.rules.proofs.Stage.{filmLive}
 use Rattle.promises.proofs.ListLaws.{all-true, every-parts, Each, each-all, each-append, every-map, apart-parts, Unlike, Differ, joined, differ-append, differ-all, differ-one}
-use Rattle.promises.proofs.Facts.{between-true, core-facts, numbers-facts, shelf-facts, live-facts, film-facts}
+use Rattle.promises.proofs.Facts.{between-true, core-facts, numbers-facts, shelf-facts, live-facts, film-facts, the-place}
 use Rattle.promises.proofs.Instances.{box-uids-length, box-uid-at}
 use Rattle.promises.proofs.NewNames.{text-none}
 use Rattle.promises.proofs.Kept.{run-keeps}
@@ -47,7 +47,7 @@ filmUids n f = uidOf n (f .name) ∷ boxUids n f
 
 -- the session's, and then each film's
 abbrev pub uidLists : Core → List (List (List ℕ))
-uidLists k = sessionUids (k .numbers) (k .session) ∷ map (filmUids (k .numbers)) (filmsOf (k .shelf))
+uidLists k = sessionUids (k .numbers) (theSession k) ∷ map (filmUids (k .numbers)) (filmsOf (k .shelf))
 
 -- the UIDs of all that is live
 abbrev pub liveUids : Core → List (List ℕ)
@@ -157,16 +157,16 @@ unfolding uidsApart
 uids-differ k e =
     let r = core-facts k e in
     let n = k .numbers in
-    let s = k .session in
+    let s = theSession k in
     let films = filmsOf (k .shelf) in
     let few = between-true 1 noneLeft (n .serial) (numbers-facts n (r .numbers) .serial) .1 in
-    let sound = shelf-facts n s (k .shelf) (r .shelf) .films in
+    let sound = shelf-facts n (sessionsOf k) (k .shelf) (r .shelf) .films in
     let b = both-true (apart overlap (ownSerial (s .name) ∷ serialsOf films)) (apart sameText (sentText (s .name) ∷ textsOf films)) (r .uids) in
     let serials = apart-parts overlap (ownSerial (s .name)) (serialsOf films) (b .0) in
     let texts = apart-parts sameText (sentText (s .name)) (textsOf films) (b .1) in
     let rest = films-differ n few films sound (serials .1) (texts .1) in
     pick-cases (λ uids. Differ (uids ++ joined (map (filmUids n) films))) (isLive s) (uidOf n (s .name) ∷ []) []
-    (λ live. (others-differ n few (ownSerial (s .name)) (sentText (s .name)) (uidOf n (s .name)) (name-from n few (s .name) (live-facts n s (r .session) live .0)) films sound (serials .0) (texts .0), rest))
+    (λ live. (others-differ n few (ownSerial (s .name)) (sentText (s .name)) (uidOf n (s .name)) (name-from n few (s .name) (live-facts n s (the-place k r) live .0)) films sound (serials .0) (texts .0), rest))
     (λ gone. rest)
 
 -- the UIDs at two places are never equal

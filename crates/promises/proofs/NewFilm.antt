@@ -6,7 +6,7 @@ use mathlib.Core.Bool.{Bool, true, false}
 use mathlib.Core.List.{List, [], _∷_, _++_, map}
 use native.Mathlib.Omega.{arith}
 use lib.Dec.{eqb}
-use lib.ListN.{length, replicate, length-append, length-map}
+use lib.ListN.{length, replicate, length-append, length-map, getD}
 use lib.Seq.{take-append-seam}
 use borrow.Author.Tests.{leb-true, le-leb, eqb-false}
 use Rattle.choice.specs.Pick.{pick, both, not}
@@ -21,19 +21,20 @@ use Rattle.rules.specs.declared.Core.{Core}
 use Rattle.rules.specs.Bounds.{mostBoxes}
 use Rattle.rules.specs.Lists.{every, any, apart, from, filledTo}
 use Rattle.rules.specs.Values.{blank, kindIn, countsIn}
-use Rattle.rules.specs.Records.{serial, madeName, sentName, uidOf, boxCount, boxesOf, noBox, isLive, filmsOf, filmNamed, serialsUsed}
-use Rattle.rules.specs.Attributes.{Listing, Standing, look, valueOf, fine, mandatory, reference, optionalFilm, filmCreateStandings, filmWith, layoutIn}
+use Rattle.rules.specs.Records.{serial, madeName, sentName, uidOf, boxCount, boxesOf, noBox, isLive, filmsOf, filmNamed, serialsUsed, sessionsOf, theSession, noSession}
+use Rattle.rules.specs.Attributes.{Listing, Standing, look, valueOf, fine, mandatory, reference, optionalFilm, filmCreateStandings, filmWith, layoutIn, sessionIn}
 use Rattle.rules.specs.Effects.{tooFewSerials, ownSerials, nameFrom, newBox, newFilm, filmSerials, filmCreated}
 use Rattle.rules.specs.Checks.{createRules, newFilmRules, sentUid}
-use Rattle.rules.specs.Sound.{nameSound, layoutSound, boxBlank, filmSound, Serials, overlap, ownSerial, serialsOf, sentText, sameText, uidsApart, coreSound}
+use Rattle.rules.specs.Sound.{nameSound, layoutSound, boxBlank, filmSound, Serials, overlap, ownSerial, serialsOf, sentText, sameText, uidsApart, coreSound, hasSession}
 use Rattle.promises.proofs.ListLaws.{each-parts, films-shelved, every-append, every-nil, every-one, every-cons, every-parts, every-replicate, apart-one, apart-append, map-append, from-length, take-filled, drop-filled}
-use Rattle.promises.proofs.Facts.{core-facts, core-sound, Counted, counted, live-facts, shelf-facts, shelved-sound, filmRoom, films-few, film-facts, film-sound}
-use Rattle.promises.proofs.Later.{session-later, films-later, queue-later, serials-sound, serials-later}
+use Rattle.promises.proofs.Facts.{core-facts, core-sound, Counted, counted, live-facts, shelf-facts, shelved-sound, films-few, film-facts, film-sound, the-place}
+use Rattle.promises.proofs.Later.{sessions-later, films-later, queue-later, serials-sound, serials-later}
 use Rattle.promises.proofs.Standings.{AllFine, kept-fine, mandatory-fine, reference-live}
 use Rattle.promises.proofs.Layouts.{counts-lines, kind-sound, layout-sound, new-boxes}
 use Rattle.promises.proofs.Instances.{nobody-named}
 use Rattle.promises.proofs.NewNames.{Sendable, sendable, name-from-sound, apart-later, apart-none, own-below, text-none, text-free}
 use Rattle.promises.proofs.Films.{film-with-sound}
+use Rattle.promises.proofs.Places.{film-live}
 
 -- The film.
 
@@ -41,6 +42,7 @@ use Rattle.promises.proofs.Films.{film-with-sound}
 abbrev pub baseFilm : Core → List ℕ → Listing → Film
 baseFilm k sent l = record {
   name = nameFrom (k .numbers) sent;
+  session = sessionIn k l;
   layout = layoutIn l;
   orientation = 0;
   magnification = 2;
@@ -198,7 +200,7 @@ module _ (n : Numbers) (sent : List ℕ) where
 
 -- what the checks of a new film tell
 record Checked (k : Core) (sent : List ℕ) (l : Listing) : Type 0 where
-  live : isLive (k .session) ≡ true
+  owned : isLive (getD (sessionsOf k) (sessionIn k l) noSession) ≡ true
   layout : layoutSound (layoutIn l) ≡ true
   optional : AllFine (optionalFilm l)
   few : length (filmsOf (k .shelf)) ≡ 8 → ⊥
@@ -212,7 +214,7 @@ checked k sent l h =
     let all-fine : AllFine (format ∷ (refers ++ optionalFilm l)) = kept-fine (format ∷ (refers ++ optionalFilm l)) (h .0, (h .1 .0, (h .1 .1 .0, tt))) in
     let parts = each-parts (λ (s : Standing). s ≡ fine) refers (optionalFilm l) (all-fine .1) in
     record {
-      live = reference-live k l (look l 0x2010_0500) (parts .0);
+      owned = reference-live k l (parts .0);
       layout = layout-in-sound l (all-fine .0);
       optional = parts .1;
       few = eqb-false (length (filmsOf (k .shelf))) 8 (h .1 .1 .1 .0);
@@ -223,19 +225,23 @@ new-name : (k : Core) (sent : List ℕ) (l : Listing) → newFilm k sent l .name
 unfolding newFilm filmWith
 new-name k sent l = refl
 
-new-uids : (k : Core) (sent : List ℕ) (l : Listing) → coreSound k ≡ true → Sendable k sent → isLive (k .session) ≡ true → uidsApart (k .session) (filmsOf (k .shelf) ++ (newFilm k sent l ∷ [])) ≡ true
+new-owned : (k : Core) (sent : List ℕ) (l : Listing) → isLive (getD (sessionsOf k) (sessionIn k l) noSession) ≡ true → hasSession (sessionsOf k) (newFilm k sent l) ≡ true
+unfolding newFilm filmWith
+new-owned k sent l e = e
+
+new-uids : (k : Core) (sent : List ℕ) (l : Listing) → coreSound k ≡ true → Sendable k sent → isLive (theSession k) ≡ true → uidsApart (sessionsOf k) (filmsOf (k .shelf) ++ (newFilm k sent l ∷ [])) ≡ true
 unfolding uidsApart
 new-uids k sent l e s live =
     let r = core-facts k e in
     let n = k .numbers in
     let films = filmsOf (k .shelf) in
-    let each = shelf-facts n (k .session) (k .shelf) (r .shelf) .films in
-    let name = live-facts n (k .session) (r .session) live .0 in
-    let b = both-true (apart overlap (ownSerial (k .session .name) ∷ serialsOf films)) (apart sameText (sentText (k .session .name) ∷ map (λ (f : Film). sentText (f .name)) films)) (r .uids) in
-    both-holds (apart overlap (ownSerial (k .session .name) ∷ serialsOf (films ++ (newFilm k sent l ∷ [])))) (apart sameText (sentText (k .session .name) ∷ map (λ (f : Film). sentText (f .name)) (films ++ (newFilm k sent l ∷ []))))
-    (serials-apart k sent l (k .session) films name each (b .0))
-    (texts-apart n sent (k .session) films (newFilm k sent l) (new-name k sent l) name each
-    (λ z. both-second (isLive (k .session)) (same sent (uidOf n (k .session .name))) (nobody-named k sent (s .free z) .0) live)
+    let each = shelf-facts n (sessionsOf k) (k .shelf) (r .shelf) .films in
+    let name = live-facts n (theSession k) (the-place k r) live .0 in
+    let b = both-true (apart overlap (ownSerial (theSession k .name) ∷ serialsOf films)) (apart sameText (sentText (theSession k .name) ∷ map (λ (f : Film). sentText (f .name)) films)) (r .uids) in
+    both-holds (apart overlap (ownSerial (theSession k .name) ∷ serialsOf (films ++ (newFilm k sent l ∷ [])))) (apart sameText (sentText (theSession k .name) ∷ map (λ (f : Film). sentText (f .name)) (films ++ (newFilm k sent l ∷ []))))
+    (serials-apart k sent l (theSession k) films name each (b .0))
+    (texts-apart n sent (theSession k) films (newFilm k sent l) (new-name k sent l) name each
+    (λ z. both-second (isLive (theSession k)) (same sent (uidOf n (theSession k .name))) (nobody-named k sent (s .free z) .0) live)
     (λ z. nobody-named k sent (s .free z) .1)
     (b .1))
 
@@ -250,20 +256,21 @@ film-created-sound k sent l e s h =
     let later = serials-later (k .numbers) (filmSerials sent l) in
     let films = filmsOf (k .shelf) in
     let new = newFilm k sent l in
-    let room : filmRoom (k .session) ≡ 8 = rw (c .live) in
-    let few = films-few n (k .session) (k .shelf) (r .shelf) in
+    let few = films-few n (sessionsOf k) (k .shelf) (r .shelf) in
     let other = c .few in
     let all-new = films ++ (new ∷ []) in
+    let old = shelf-facts n (sessionsOf k) (k .shelf) (r .shelf) in
+    let own = new-owned k sent l (c .owned) in
     core-sound _ record {
       numbers = serials-sound n (filmSerials sent l) (r .numbers) (c .enough);
-      live = r .live;
-      session = session-later n m later (k .session) (r .session);
+      sessions = sessions-later n m later (sessionsOf k) (r .sessions);
       shelf =
-          shelved-sound m (k .session) all-new
-          (rw (length-append films (new ∷ []), room) (omega arith))
-          (every-append (filmSound m) films (new ∷ []) (films-later n m later films (shelf-facts n (k .session) (k .shelf) (r .shelf) .films)) (every-one (filmSound m) new (new-film-sound k sent l s (counted n (r .numbers)) (c .layout) (c .optional))));
+          shelved-sound m (sessionsOf k) all-new
+          (rw (length-append films (new ∷ [])) (omega arith))
+          (every-append (hasSession (sessionsOf k)) films (new ∷ []) (old .owned) (every-one (hasSession (sessionsOf k)) new own))
+          (every-append (filmSound m) films (new ∷ []) (films-later n m later films (old .films)) (every-one (filmSound m) new (new-film-sound k sent l s (counted n (r .numbers)) (c .layout) (c .optional))));
       queue = queue-later n m later (k .queue) (r .queue);
-      uids = rw (films-shelved all-new) (new-uids k sent l e s (c .live));
+      uids = rw (films-shelved all-new) (new-uids k sent l e s (film-live k new own));
       opened = r .opened;
     }
 

@@ -22,7 +22,7 @@ use Rattle.rules.specs.declared.Command.the-variants.{Unreadable, Unknown, Know
 use Rattle.rules.specs.Lists.{any}
 use Rattle.rules.specs.declared.Instance.{Instance}
 use Rattle.rules.specs.declared.Instance.the-variants.{Nobody, TheSession, TheFilm, TheBox}
-use Rattle.rules.specs.Records.{sentName, named, filmsOf, isLive, boxCount, syntaxIn}
+use Rattle.rules.specs.Records.{sentName, named, boxCount, syntaxIn, sessionsOf, filmsUnder}
 use Rattle.rules.specs.Commands.{uidAt, understood}
 use Rattle.rules.specs.declared.Image.{Image}
 use Rattle.rules.specs.declared.Image.the-variants.{Keeps, Erases, TooMany, Fills}
@@ -34,10 +34,11 @@ use Rattle.rules.specs.Effects.{noPictureLeft, filmAt, noneFilled}
 use Rattle.rules.specs.Sound.{coreSound}
 use Rattle.rules.specs.declared.Class.{Class}
 use Rattle.rules.specs.declared.Class.the-variants.{Verification, Sessions, Films, Boxes, UnknownClass}
-use Rattle.rules.specs.Checks.{classOf, generalRules, createRules, targetRules, boxRules, Plan, nothing, imageNote, sentUid, createPlan, setPlan, actionPlan, deletePlan, planOf, failed, resultOf, decideRequest, decideCommand, decide}
-use Rattle.promises.proofs.Facts.{between-true, core-facts, numbers-facts, filmRoom, films-few}
+use Rattle.rules.specs.Checks.{classOf, generalRules, createRules, targetRules, boxRules, Plan, nothing, imageNote, sentUid, createPlan, setPlan, actionPlan, deletePlan, planOf, failed, resultOf, decideRequest, decide, decideCommand}
+use Rattle.promises.proofs.Facts.{between-true, core-facts, numbers-facts, films-few}
 use Rattle.promises.proofs.Decided.{reply-of, kept-both, replyOf}
 use Rattle.promises.proofs.Pictures.{pixels-within}
+use Rattle.promises.proofs.Places.{films-under}
 
 -- what a note may tell, of a data set of so many bytes
 abbrev pub NoteWithin : ℕ → Note → Type 0
@@ -118,12 +119,13 @@ module _ (k : Core) (sound : coreSound k ≡ true) where
   unfolding actionPlan
   action-tells bytes Nobody name = nothing-tells bytes k
   action-tells bytes TheSession name =
-      let few = films-few (k .numbers) (k .session) (k .shelf) (core-facts k sound .shelf) in
-      let most : filmRoom (k .session) ≤ mostFilms = pick-cases (λ (n : ℕ). n ≤ mostFilms) (isLive (k .session)) mostFilms 0 (λ _. omega arith) (λ _. omega arith) in (
+      let films = filmsUnder 0 (k .shelf) in
+      let few = ap length (films-under k sound) in
+      let most = films-few (k .numbers) (sessionsOf k) (k .shelf) (core-facts k sound .shelf) in (
         omega arith,
         λ kept.
-            let some = eqb-false (length (filmsOf (k .shelf))) 0 (kept .0) in
-            (warned (any noneFilled (filmsOf (k .shelf))) 0xB602 (omega arith), omega arith),
+            let some = eqb-false (length films) 0 (kept .0) in
+            (warned (any noneFilled films) 0xB602 (omega arith), omega arith),
       )
   action-tells bytes (TheFilm i) name = (omega arith, λ kept. (warned (any noneFilled (filmAt k i ∷ [])) 0xB603 (omega arith), omega arith))
   action-tells bytes (TheBox i j) name = nothing-tells bytes k

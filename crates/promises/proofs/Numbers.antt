@@ -16,7 +16,7 @@ use Rattle.rules.specs.declared.Numbers.{Numbers}
 use Rattle.rules.specs.declared.Core.{Core}
 use Rattle.rules.specs.Bounds.{noneLeft}
 use Rattle.rules.specs.declared.Instance.the-variants.{TheBox}
-use Rattle.rules.specs.Records.{boxCount, filmsOf, noFilm, noBox, pictureUsed, named}
+use Rattle.rules.specs.Records.{boxCount, filmsOf, noFilm, noBox, pictureUsed, named, sessionsOf, theSession}
 use Rattle.rules.specs.declared.Image.{Image}
 use Rattle.rules.specs.declared.Image.the-variants.{Keeps, Erases, TooMany, Fills}
 use Rattle.rules.specs.Attributes.{Listing, imageIn, isFill, boxWith, pictureAfter, filmWith}
@@ -95,7 +95,7 @@ module _ (k : Core) (sent : List ℕ) (l : Listing) where
   sent-name h = rw (ne-eqb (length sent) 0 h)
 
   -- the serial of a session without a sent UID
-  pub session-serial : length sent ≡ 0 → Kept (newSessionRules k sent l) → Taken (k .numbers) (sessionCreated k sent l .numbers) (sessionCreated k sent l .session .name .made .0)
+  pub session-serial : length sent ≡ 0 → Kept (newSessionRules k sent l) → Taken (k .numbers) (sessionCreated k sent l .numbers) (theSession (sessionCreated k sent l) .name .made .0)
   unfolding sessionCreated
   session-serial e h =
       let enough = ltb-false noneLeft (k .numbers .serial + ownSerials sent) (h .1 .1 .1 .1 .0) in
@@ -163,7 +163,7 @@ module _ (k : Core) (i j : ℕ) (l : Listing) (fill : isFill (imageIn l) ≡ tru
 pub filled-picture : (k : Core) (uid : List ℕ) (i j : ℕ) (l : Listing) → coreSound k ≡ true → length (filmAt k i .boxes) ≡ 36 → named k uid ≡ TheBox i j → isFill (imageIn l) ≡ true → getD (filmAt (boxSet k i j l) i .boxes) j noBox .picture .0 ≡ k .numbers .picture
 filled-picture k uid i j l e room b fill =
     let t = named-box k uid i j b in
-    let film = every-at (filmSound (k .numbers)) (filmsOf (k .shelf)) i noFilm (shelf-facts (k .numbers) (k .session) (k .shelf) (core-facts k e .shelf) .films) (t .0) in
+    let film = every-at (filmSound (k .numbers)) (filmsOf (k .shelf)) i noFilm (shelf-facts (k .numbers) (sessionsOf k) (k .shelf) (core-facts k e .shelf) .films) (t .0) in
     let most = boxes-most (filmAt k i .layout) (film-facts (k .numbers) (filmAt k i) film .layout) in
     let place = t .1 in
     box-picture k i j l fill (t .0) (omega arith)

@@ -18,21 +18,21 @@ use Rattle.rules.specs.declared.Core.{Core}
 use Rattle.rules.specs.Lists.{any, placeOf}
 use Rattle.rules.specs.declared.Instance.{Instance}
 use Rattle.rules.specs.declared.Instance.the-variants.{Nobody, TheSession, TheFilm, TheBox}
-use Rattle.rules.specs.Records.{rootOf, uidOf, boxCount, filmsOf, noFilm, isLive, boxUids, filmNamed, boxNamed, boxOf, named}
+use Rattle.rules.specs.Records.{rootOf, uidOf, boxCount, filmsOf, noFilm, isLive, boxUids, filmNamed, boxNamed, boxOf, named, sessionsOf, theSession}
 use Rattle.rules.specs.Effects.{filmAt}
 use Rattle.rules.specs.Checks.{isNobody}
-use Rattle.rules.specs.Sound.{coreSound}
+use Rattle.rules.specs.Sound.{coreSound, hasSession}
 use Rattle.rules.specs.Calls.{handed, printing}
-use Rattle.promises.proofs.ListLaws.{place-below, place-passes, none-at, joined-one, map-at}
-use Rattle.promises.proofs.Facts.{core-facts, filmRoom, films-few}
+use Rattle.promises.proofs.ListLaws.{place-below, place-passes, none-at, joined-one, map-at, every-at}
 use Rattle.promises.proofs.Instances.{named-film, named-box, box-uids-length, box-uid-at, nobody-named}
 use Rattle.promises.proofs.Kept.{run-keeps}
 use Rattle.promises.proofs.LiveUids.{filmUids, uidLists, uids-differ}
+use Rattle.promises.proofs.Places.{film-live, films-owned}
 
 -- the session is live, and its UID names it
 pub record LiveSession (k : Core) : Type 0 where
-  pub live : isLive (k .session) ≡ true
-  pub names : named k (uidOf (k .numbers) (k .session .name)) ≡ TheSession
+  pub live : isLive (theSession k) ≡ true
+  pub names : named k (uidOf (k .numbers) (theSession k .name)) ≡ TheSession
 
 -- a film is on the shelf, its UID names it, and its session is live
 pub record LiveFilm (k : Core) (i : ℕ) : Type 0 where
@@ -68,7 +68,7 @@ record Stands (k : Core) (uid : List ℕ) (x : Instance) : Type 0 where
   is : instanceAt list place ≡ x
 
 module _ (k : Core) (uid : List ℕ) where
-  session-stands : isLive (k .session) ≡ true → uid ≡ uidOf (k .numbers) (k .session .name) → Stands k uid TheSession
+  session-stands : isLive (theSession k) ≡ true → uid ≡ uidOf (k .numbers) (theSession k .name) → Stands k uid TheSession
   session-stands live e = record { list = 0; place = 0; inside = rw live (omega arith); holds = rw live (sym e); is = refl }
 
   film-stands : (i : ℕ) → i < length (filmsOf (k .shelf)) → uid ≡ uidOf (k .numbers) (filmAt k i .name) → Stands k uid (TheFilm i)
@@ -89,8 +89,8 @@ module _ (k : Core) (uid : List ℕ) where
       let n = k .numbers in
       let i = placeOf (boxNamed n uid) films in
       let P : Instance → Type 0 = λ x. isNobody x ≡ false → Stands k uid x in
-      pick-cases P (both (isLive (k .session)) (same uid (uidOf n (k .session .name)))) TheSession _
-      (λ e s. let b = both-true (isLive (k .session)) (same uid (uidOf n (k .session .name))) e in session-stands (b .0) (same-equal uid _ (b .1)))
+      pick-cases P (both (isLive (theSession k)) (same uid (uidOf n (theSession k .name)))) TheSession _
+      (λ e s. let b = both-true (isLive (theSession k)) (same uid (uidOf n (theSession k .name))) e in session-stands (b .0) (same-equal uid _ (b .1)))
       (λ _.
       pick-cases P (any (filmNamed n uid) films) (TheFilm (placeOf (filmNamed n uid) films)) _
       (λ e s. film-stands (placeOf (filmNamed n uid) films) (place-below (filmNamed n uid) films e) (same-equal uid _ (place-passes (filmNamed n uid) films noFilm e)))
@@ -117,24 +117,17 @@ module _ (k : Core) (sound : coreSound k ≡ true) where
       by true e = absurd (f e)
       by false e = one-bears uid (named k uid) x (named-stands k uid e) s
 
-  pub session-lives : isLive (k .session) ≡ true → LiveSession k
+  pub session-lives : isLive (theSession k) ≡ true → LiveSession k
   session-lives live =
-      let uid = uidOf (k .numbers) (k .session .name) in
+      let uid = uidOf (k .numbers) (theSession k .name) in
       record {
         live = live;
-        names = bearer-named uid TheSession (session-stands k uid live refl) (λ e. clash (both-second (isLive (k .session)) (same uid uid) (nobody-named k uid e .0) live) (same-self uid));
+        names = bearer-named uid TheSession (session-stands k uid live refl) (λ e. clash (both-second (isLive (theSession k)) (same uid uid) (nobody-named k uid e .0) live) (same-self uid));
       }
 
   -- there are films only under a live session
-  filmed-live : (i : ℕ) → i < length (filmsOf (k .shelf)) → isLive (k .session) ≡ true
-  filmed-live i h = by (isLive (k .session)) refl
-    where
-      by : (t : Bool) → isLive (k .session) ≡ t → t ≡ true
-      by true e = refl
-      by false e =
-          let few = films-few (k .numbers) (k .session) (k .shelf) (core-facts k sound .shelf) in
-          let none : filmRoom (k .session) ≡ 0 = rw e in
-          absurd (omega arith)
+  filmed-live : (i : ℕ) → i < length (filmsOf (k .shelf)) → isLive (theSession k) ≡ true
+  filmed-live i h = film-live k (filmAt k i) (every-at (hasSession (sessionsOf k)) (filmsOf (k .shelf)) i noFilm (films-owned k sound) h)
 
   pub film-lives : (i : ℕ) → i < length (filmsOf (k .shelf)) → LiveFilm k i
   film-lives i h =

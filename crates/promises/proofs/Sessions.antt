@@ -1,15 +1,15 @@
 -- A session set keeps the rules of the records.
 -- Assumes nothing.
-use Prim.Native.Nat.{ℕ, _≤_}
+use Prim.Native.Nat.{ℕ, _≤_, zero, suc}
 use mathlib.Core.Path.{_≡_, refl, ap, _∙_}
 use mathlib.Core.Bool.{Bool, true, false}
 use mathlib.Core.List.{List, [], _∷_}
 use native.Mathlib.Omega.{arith}
 use lib.Dec.{eqb, leb}
-use lib.ListN.{length}
+use lib.ListN.{length, getD}
 use borrow.Author.Tests.{leb-true, eqb-false}
 use Rattle.choice.specs.Pick.{pick, both, not}
-use Rattle.choice.proofs.Picks.{Kept, pick-cases, both-true, not-true, clash}
+use Rattle.choice.proofs.Picks.{Kept, pick-cases, both-true, not-true, both-holds}
 use Rattle.octets.specs.Octets.{same}
 use Rattle.octets.proofs.Same.{same-self}
 use Rattle.uids.specs.Uids.{digits}
@@ -19,12 +19,12 @@ use Rattle.rules.specs.declared.Numbers.{Numbers}
 use Rattle.rules.specs.declared.Core.{Core}
 use Rattle.rules.specs.Lists.{every, filledTo}
 use Rattle.rules.specs.Values.{withoutLeading, withoutTrailing, unlessSpace, trimmed, noBytes, blank, unsigned, decimalValue, countIn, codeIn, priorities, media, destinations, labelByte, labelAllowed}
-use Rattle.rules.specs.Records.{isLive, filmsOf}
+use Rattle.rules.specs.Records.{isLive, filmsOf, theSession, noSession}
 use Rattle.rules.specs.Attributes.{Listing, look, valueOf, attributeRules, given, codeAllowed, sessionStandings, sessionWith}
 use Rattle.rules.specs.Effects.{sessionSet}
-use Rattle.rules.specs.Sound.{between, nameSound, sessionSound, sessionBlank, shelfSound, uidsApart, coreSound}
-use Rattle.promises.proofs.ListLaws.{take-filled, behind-filled}
-use Rattle.promises.proofs.Facts.{between-holds, core-facts, core-sound, LabelFacts, ValueFacts, session-sound, live-facts}
+use Rattle.rules.specs.Sound.{between, nameSound, sessionSound, sessionBlank, shelfSound, uidsApart, coreSound, sessionPlaceSound, hasSession, flag}
+use Rattle.promises.proofs.ListLaws.{take-filled, behind-filled, every-one, every-so}
+use Rattle.promises.proofs.Facts.{between-holds, core-facts, core-sound, LabelFacts, ValueFacts, session-sound, live-facts, the-place, shelf-facts, shelf-sound}
 use Rattle.promises.proofs.Standings.{kept-fine, given-allowed, or-kept, code-given}
 
 -- A text trimmed is not trimmed further.
@@ -123,31 +123,46 @@ session-with : (n : Numbers) (l : Listing) (s : Session) → Kept (attributeRule
 unfolding sessionWith
 session-with n l s r f = session-sound n (sessionWith l s) (f .0) (values-with l s r (f .1))
 
--- the films under a session are told by whether it is live
-shelf-live : (n : Numbers) (l : Listing) (s : Session) (shelf : Shelf) → shelfSound n s shelf ≡ true → shelfSound n (sessionWith l s) shelf ≡ true
-unfolding shelfSound sessionWith
-shelf-live n l s shelf e = e
+-- a session set is live as it was
+owned-with : (l : Listing) (s : Session) (i : ℕ) → isLive (getD (s ∷ []) i noSession) ≡ true → isLive (getD (sessionWith l s ∷ []) i noSession) ≡ true
+unfolding sessionWith
+owned-with l s zero e = e
+owned-with l s (suc i) e = e
 
-uids-named : (l : Listing) (s : Session) (shelf : Shelf) → uidsApart s (filmsOf shelf) ≡ true → uidsApart (sessionWith l s) (filmsOf shelf) ≡ true
+-- and its films are told by that
+shelf-live : (n : Numbers) (l : Listing) (s : Session) (shelf : Shelf) → shelfSound n (s ∷ []) shelf ≡ true → shelfSound n (sessionWith l s ∷ []) shelf ≡ true
+shelf-live n l s shelf e =
+    let f = shelf-facts n (s ∷ []) shelf e in
+    shelf-sound n (sessionWith l s ∷ []) shelf record {
+      count = f .count;
+      owned = every-so (hasSession (s ∷ [])) (hasSession (sessionWith l s ∷ [])) (λ x o. owned-with l s (x .session) o) (filmsOf shelf) (f .owned);
+      films = f .films;
+      behind = f .behind;
+    }
+
+uids-named : (l : Listing) (s : Session) (shelf : Shelf) → uidsApart (s ∷ []) (filmsOf shelf) ≡ true → uidsApart (sessionWith l s ∷ []) (filmsOf shelf) ≡ true
 unfolding uidsApart sessionWith
 uids-named l s shelf e = e
 
-live-holds : (live : Bool) (a b : Bool) → live ≡ true → a ≡ true → pick live a b ≡ true
-live-holds true a b e f = f
-live-holds false a b e f = absurd (clash refl e)
+-- a place that is live, with a session that keeps its rules
+pub place-live : (n : Numbers) (s : Session) → flag (s .live) ≡ true → isLive s ≡ true → sessionSound n s ≡ true → sessionPlaceSound n s ≡ true
+place-live n s f live e = both-holds (flag (s .live)) (pick (isLive s) (sessionSound n s) (sessionBlank s)) f (rw live e)
 
-pub session-set-sound : (k : Core) (l : Listing) → coreSound k ≡ true → isLive (k .session) ≡ true → Kept (attributeRules (sessionStandings l)) → coreSound (sessionSet k l) ≡ true
-unfolding sessionSet sessionWith
+set-place : (n : Numbers) (l : Listing) (s : Session) → sessionPlaceSound n s ≡ true → isLive s ≡ true → sessionSound n (sessionWith l s) ≡ true → sessionPlaceSound n (sessionWith l s) ≡ true
+unfolding sessionWith
+set-place n l s e live h = place-live n (sessionWith l s) (both-true (flag (s .live)) (pick (isLive s) (sessionSound n s) (sessionBlank s)) e .0) live h
+
+pub session-set-sound : (k : Core) (l : Listing) → coreSound k ≡ true → isLive (theSession k) ≡ true → Kept (attributeRules (sessionStandings l)) → coreSound (sessionSet k 0 l) ≡ true
+unfolding sessionSet
 session-set-sound k l e live r =
     let f = core-facts k e in
-    core-sound (sessionSet k l) record {
+    let s = theSession k in
+    let here = the-place k f in
+    core-sound (sessionSet k 0 l) record {
       numbers = f .numbers;
-      live = f .live;
-      session =
-          live-holds (isLive (k .session)) (sessionSound (k .numbers) (sessionWith l (k .session))) (sessionBlank (sessionWith l (k .session))) live
-          (session-with (k .numbers) l (k .session) r (live-facts (k .numbers) (k .session) (f .session) live));
-      shelf = shelf-live (k .numbers) l (k .session) (k .shelf) (f .shelf);
+      sessions = every-one (sessionPlaceSound (k .numbers)) (sessionWith l s) (set-place (k .numbers) l s here live (session-with (k .numbers) l s r (live-facts (k .numbers) s here live)));
+      shelf = shelf-live (k .numbers) l s (k .shelf) (f .shelf);
       queue = f .queue;
-      uids = uids-named l (k .session) (k .shelf) (f .uids);
+      uids = uids-named l s (k .shelf) (f .uids);
       opened = f .opened;
     }

@@ -2,8 +2,9 @@
 -- Assumes nothing.
 use Prim.Native.Nat.{_<_}
 use mathlib.Core.Path.{_≡_}
+use mathlib.Core.List.{List}
 use lib.ListN.{length}
-use Rattle.rules.specs.Bounds.{mostFilms, mostBoxes, mostEntries, rootLimit, tickets}
+use Rattle.rules.specs.Bounds.{mostFilms, mostBoxes, mostEntries, rootLimit, tickets, mostSessions}
 use Rattle.rules.specs.declared.Name.{Name}
 use Rattle.rules.specs.declared.Session.{Session}
 use Rattle.rules.specs.declared.Film.{Film}
@@ -45,8 +46,12 @@ pub record NumbersSized (n : Numbers) : Type 0 where
   pub root : length (n .root) ≡ rootLimit
   pub ticket : n .ticket < tickets
 
+pub record SessionsSized (sessions : List Session) : Type 0 where
+  pub places : length sessions ≡ mostSessions
+  pub each : Each SessionSized sessions
+
 pub record Sized (k : Core) : Type 0 where
   pub numbers : NumbersSized (k .numbers)
-  pub session : SessionSized (k .session)
+  pub sessions : SessionsSized (k .sessions)
   pub shelf : ShelfSized (k .shelf)
   pub queue : QueueSized (k .queue)

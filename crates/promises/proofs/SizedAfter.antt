@@ -21,25 +21,36 @@ use Rattle.rules.specs.declared.Entry.{Entry}
 use Rattle.rules.specs.declared.Queue.{Queue}
 use Rattle.rules.specs.declared.Numbers.{Numbers}
 use Rattle.rules.specs.declared.Core.{Core}
-use Rattle.rules.specs.Lists.{every, from, filledTo, without}
+use Rattle.rules.specs.Lists.{every, from, filledTo}
 use Rattle.rules.specs.Values.{trimmed, blank, labelByte, labelAllowed, countsIn}
-use Rattle.rules.specs.Records.{madeName, sentName, boxCount, boxesOf, noBox, noFilm, filmsOf, shelved, noEntry, entriesOf, queued, noSession, newSession}
+use Rattle.rules.specs.Records.{madeName, sentName, boxCount, boxesOf, noBox, noFilm, filmsOf, shelved, noEntry, entriesOf, queued, noSession, newSession, theSession, noSessions, under, filmsUnder}
 use Rattle.rules.specs.declared.Image.{Image}
 use Rattle.rules.specs.declared.Image.the-variants.{Keeps, Erases, TooMany, Fills}
 use Rattle.rules.specs.Attributes.{Listing, look, valueOf, fine, mandatory, optional, attributeRules, sessionStandings, sessionWith, filmWith, layoutIn, imageIn}
 use Rattle.rules.specs.Effects.{nameFrom, nextTicket, sessionCreated, newBox, newFilm, filmCreated, sessionSet, filmAt, filmSet, boxSetIn, numbersAfter, boxSet, sessionDeleted, filmDeleted, pictureOn, entryOf, entriesFor, ticketAfter, printed, queueRoom}
 use Rattle.rules.specs.Checks.{createRules, newSessionRules, newFilmRules, sentUid, sessionPrintRules, filmPrintRules}
 use Rattle.rules.specs.Calls.{Starting, Opening, startRules, started, opened, closed, taken}
-use Rattle.promises.proofs.ListLaws.{from-length, Each, each-or, each-append, each-take, each-drop, each-without, each-set, each-filled, filled-length}
+use Rattle.promises.proofs.ListLaws.{from-length, Each, each-or, each-append, each-take, each-drop, each-set, each-filled, filled-length, those-part, part-length, each-part, part-without}
+use Rattle.promises.proofs.ListLaws as lists
 use Rattle.promises.proofs.Standings.{kept-fine, or-kept}
 use Rattle.promises.proofs.Layouts.{lines-few, layout-few}
 use Rattle.promises.proofs.NewNames.{sendable, sent-short}
-use Rattle.promises.proofs.Sized.{NameSized, SessionSized, FilmSized, ShelfSized, EntrySized, QueueSized, NumbersSized, Sized}
+use Rattle.promises.proofs.Sized.{NameSized, SessionSized, FilmSized, ShelfSized, EntrySized, QueueSized, NumbersSized, Sized, SessionsSized}
 
 -- Nothing live.
 
 no-session-sized : SessionSized noSession
 no-session-sized = record { name = refl; label = refl }
+
+-- a session at the only place
+one-sized : (s : Session) → SessionSized s → SessionsSized (s ∷ [])
+one-sized s z = record { places = refl; each = (z, tt) }
+
+no-sessions-sized : SessionsSized noSessions
+no-sessions-sized = one-sized noSession no-session-sized
+
+the-session-sized : (k : Core) → Sized k → SessionSized (theSession k)
+the-session-sized k z = each-or SessionSized (k .sessions) 0 noSession (z .sessions .each) no-session-sized
 
 no-film-sized : FilmSized noFilm
 no-film-sized = record { name = refl; counts = refl; boxes = refl }
@@ -80,18 +91,18 @@ started-sized h r =
     let t = either-false (not (isUid (h .root))) (ltb rootLimit (length (h .root))) (r .0) in
     record {
       numbers = record { root = filled-length rootLimit 0 (h .root) (ltb-false rootLimit (length (h .root)) (t .1)); ticket = omega arith };
-      session = no-session-sized;
+      sessions = no-sessions-sized;
       shelf = shelved-sized [] (omega arith) tt;
       queue = queued-sized [] (omega arith) tt;
     }
 
 pub opened-sized : (k : Core) (h : Opening) → Sized k → Sized (opened k h)
 unfolding opened
-opened-sized k h z = record { numbers = z .numbers; session = z .session; shelf = z .shelf; queue = z .queue }
+opened-sized k h z = record { numbers = z .numbers; sessions = z .sessions; shelf = z .shelf; queue = z .queue }
 
 pub closed-sized : (k : Core) → Sized k → Sized (closed k)
 unfolding closed
-closed-sized k z = record { numbers = z .numbers; session = no-session-sized; shelf = shelved-sized [] (omega arith) tt; queue = z .queue }
+closed-sized k z = record { numbers = z .numbers; sessions = no-sessions-sized; shelf = shelved-sized [] (omega arith) tt; queue = z .queue }
 
 pub taken-sized : (k : Core) → Sized k → Sized (taken k .0)
 unfolding taken
@@ -101,27 +112,36 @@ taken-sized k z =
     let few : length (drop 1 entries) ≤ mostEntries = simp length-drop (omega (arith, t .0)) in
     record {
       numbers = z .numbers;
-      session = z .session;
+      sessions = z .sessions;
       shelf = z .shelf;
       queue = queued-sized (drop 1 entries) few (each-drop EntrySized 1 entries (t .1));
     }
 
 -- Delete.
 
-pub session-deleted-sized : (k : Core) → Sized k → Sized (sessionDeleted k)
+-- some of the films
+part-sized : (shelf : Shelf) (films : List Film) → lists.Part films (filmsOf shelf) → ShelfSized shelf → ShelfSized (shelved films)
+part-sized shelf films p z =
+    let t = films-sized shelf z in
+    let fewer = part-length p in
+    shelved-sized films (omega (arith, t .0)) (each-part FilmSized p (t .1))
+
+pub session-deleted-sized : (k : Core) → Sized k → Sized (sessionDeleted k 0)
 unfolding sessionDeleted
-session-deleted-sized k z = record { numbers = z .numbers; session = no-session-sized; shelf = shelved-sized [] (omega arith) tt; queue = z .queue }
+session-deleted-sized k z = record {
+  numbers = z .numbers;
+  sessions = no-sessions-sized;
+  shelf = part-sized (k .shelf) _ (those-part (λ f. not (under 0 f)) (filmsOf (k .shelf))) (z .shelf);
+  queue = z .queue;
+}
 
 pub film-deleted-sized : (k : Core) (i : ℕ) → Sized k → Sized (filmDeleted k i)
 unfolding filmDeleted
 film-deleted-sized k i z =
-    let films = filmsOf (k .shelf) in
-    let t = films-sized (k .shelf) (z .shelf) in
-    let few : length (without i films) ≤ mostFilms = simp (length-append, length-take, length-drop) (omega (arith, t .0)) in
     record {
       numbers = z .numbers;
-      session = z .session;
-      shelf = shelved-sized (without i films) few (each-without FilmSized i films (t .1));
+      sessions = z .sessions;
+      shelf = part-sized (k .shelf) _ (part-without i (filmsOf (k .shelf))) (z .shelf);
       queue = z .queue;
     }
 
@@ -143,9 +163,9 @@ session-with-sized l s r z = record {
   label = or-kept (λ (t : List ℕ). length t ≡ 64) labelAllowed l 0x2000_0050 (λ v. filledTo 64 0 (trimmed v)) (s .label) (label-right l r) label-given (z .label);
 }
 
-pub session-set-sized : (k : Core) (l : Listing) → Kept (attributeRules (sessionStandings l)) → Sized k → Sized (sessionSet k l)
+pub session-set-sized : (k : Core) (l : Listing) → Kept (attributeRules (sessionStandings l)) → Sized k → Sized (sessionSet k 0 l)
 unfolding sessionSet
-session-set-sized k l r z = record { numbers = z .numbers; session = session-with-sized l (k .session) r (z .session); shelf = z .shelf; queue = z .queue }
+session-set-sized k l r z = record { numbers = z .numbers; sessions = one-sized (sessionWith l (theSession k)) (session-with-sized l (theSession k) r (the-session-sized k z)); shelf = z .shelf; queue = z .queue }
 
 name-sized : (n : Numbers) (uid : List ℕ) (unsent : Bool) → length uid ≤ 64 → NameSized (pick unsent (madeName (n .serial)) (sentName uid))
 name-sized n uid true h = refl
@@ -162,7 +182,7 @@ session-created-sized k c sent l r q z =
     let s = session-with-sized l newSession (q .0, (q .1 .0, (q .1 .1 .0, tt))) (record { name = refl; label = refl }) in
     record {
       numbers = record { root = z .numbers .root; ticket = z .numbers .ticket };
-      session = record { name = new-name-sized k c sent r; label = s .label };
+      sessions = one-sized _ (record { name = new-name-sized k c sent r; label = s .label });
       shelf = z .shelf;
       queue = z .queue;
     }
@@ -184,7 +204,7 @@ pub film-set-sized : (k : Core) (i : ℕ) (l : Listing) → Sized k → Sized (f
 unfolding filmSet
 film-set-sized k i l z = record {
   numbers = z .numbers;
-  session = z .session;
+  sessions = z .sessions;
   shelf = set-sized (k .shelf) i (filmWith l (filmAt k i)) (z .shelf) (film-with-sized l (filmAt k i) (film-at-sized k i z));
   queue = z .queue;
 }
@@ -201,7 +221,7 @@ box-set-sized k i j l z =
     let f = film-at-sized k i z in
     record {
       numbers = numbers-after-sized (imageIn l) (k .numbers) (z .numbers);
-      session = z .session;
+      sessions = z .sessions;
       shelf =
           set-sized (k .shelf) i (boxSetIn (k .numbers .picture) j l (filmAt k i)) (z .shelf)
           (record { name = f .name; counts = f .counts; boxes = length-set (filmAt k i .boxes) j _ ∙ f .boxes });
@@ -236,7 +256,7 @@ film-created-sized k c sent l r q z =
     let t = films-sized (k .shelf) (z .shelf) in
     record {
       numbers = record { root = z .numbers .root; ticket = z .numbers .ticket };
-      session = z .session;
+      sessions = z .sessions;
       shelf =
           shelved-sized (films ++ (f ∷ [])) (one-more mostFilms films f (t .0) (q .1 .1 .1 .0))
           (each-append FilmSized films (f ∷ []) (t .1) (new-film-sized k (sentUid c sent) l (new-name-sized k c sent r), tt));
@@ -278,13 +298,14 @@ printed-sized k films e h z =
     let most : length (entries ++ entriesFor k (k .numbers .ticket) films) ≤ mostEntries = simp (length-append, more .0) (omega (arith, t .0)) in
     record {
       numbers = record { root = z .numbers .root; ticket = ticket-after (k .numbers .ticket) films (z .numbers .ticket) };
-      session = z .session;
+      sessions = z .sessions;
       shelf = z .shelf;
       queue = queued-sized (entries ++ entriesFor k (k .numbers .ticket) films) most (each-append EntrySized entries (entriesFor k (k .numbers .ticket) films) (t .1) (more .1));
     }
 
-pub session-printed-sized : (k : Core) → Kept (sessionPrintRules k) → Sized k → Sized (printed k (filmsOf (k .shelf)))
-session-printed-sized k r z = printed-sized k (filmsOf (k .shelf)) (r .1 .1 .0) (films-sized (k .shelf) (z .shelf) .1) z
+pub session-printed-sized : (k : Core) → Kept (sessionPrintRules k 0) → Sized k → Sized (printed k (filmsUnder 0 (k .shelf)))
+unfolding filmsUnder
+session-printed-sized k r z = printed-sized k (filmsUnder 0 (k .shelf)) (r .1 .1 .0) (each-part FilmSized (those-part (under 0) (filmsOf (k .shelf))) (films-sized (k .shelf) (z .shelf) .1)) z
 
 pub film-printed-sized : (k : Core) (i : ℕ) → Kept (filmPrintRules k i) → Sized k → Sized (printed k (filmAt k i ∷ []))
 film-printed-sized k i r z = printed-sized k (filmAt k i ∷ []) (r .1 .0) (film-at-sized k i z, tt) z

@@ -6,7 +6,7 @@ use mathlib.Core.Bool.{Bool, true, false}
 use mathlib.Core.List.{List, [], _∷_}
 use native.Mathlib.Omega.{arith}
 use lib.Dec.{leb}
-use lib.ListN.{length}
+use lib.ListN.{length, getD}
 use borrow.Author.Tests.{ltb-true, le-leb}
 use Rattle.choice.specs.Pick.{pick, both, not}
 use Rattle.choice.proofs.Picks.{Kept, pick-cases, both-true, either-false, clash}
@@ -19,10 +19,10 @@ use Rattle.uids.specs.Uids.{isUid, unpadded}
 use Rattle.rules.specs.declared.Core.{Core}
 use Rattle.rules.specs.Lists.{any}
 use Rattle.rules.specs.Values.{noBytes, blank, codeIn}
-use Rattle.rules.specs.Records.{uidOf, isLive}
+use Rattle.rules.specs.Records.{uidOf, isLive, sessionsOf, noSession, sessionNamed}
 use Rattle.rules.specs.Commands.{bytesOf, placed}
-use Rattle.rules.specs.Attributes.{Listing, look, valueOf, itemsFound, onlyItem, Standing, missing, empty, wrong, fine, fineIf, is, mandatory, optional, given, orKept, codeAllowed, attributeRules, referenceStandings, reference}
-use Rattle.promises.proofs.ListLaws.{Each}
+use Rattle.rules.specs.Attributes.{Listing, look, valueOf, itemsFound, onlyItem, Standing, missing, empty, wrong, fine, fineIf, is, mandatory, optional, given, orKept, codeAllowed, attributeRules, referenceStandings, reference, sessionIn, referenced, itemsIn}
+use Rattle.promises.proofs.ListLaws.{Each, place-passes}
 
 abbrev pub AllFine : List Standing → Type 0
 AllFine standings = Each (λ (s : Standing). s ≡ fine) standings
@@ -94,19 +94,25 @@ code-given texts most h v e =
 -- What refers to the session.
 
 module _ (k : Core) (l : Listing) where
-  items-live : (items : Items) → AllFine (referenceStandings k l items) → isLive (k .session) ≡ true
-  items-live Empty h = absurd (unfine _ refl (h .0))
-  items-live (One inside) h =
+  items-name : (items : Items) → AllFine (referenceStandings k l items) → any (sessionNamed (k .numbers) (referenced l items)) (sessionsOf k) ≡ true
+  items-name Empty h = absurd (unfine _ refl (h .0))
+  items-name (One inside) h =
       let only = onlyItem l inside in
-      let named : List ℕ → Bool = λ u. both (isLive (k .session)) (same u (uidOf (k .numbers) (k .session .name))) in
+      let named : List ℕ → Bool = λ u. any (sessionNamed (k .numbers) u) (sessionsOf k) in
       let v = bytesOf (l .bytes) (placed (look only 0x0008_1155)) in
       let a = mandatory-fine noBytes (λ v. both (isUid (unpadded v)) (named (unpadded v))) only (look only 0x0008_1155) (h .1 .0) in
-      let b = both-true (isUid (unpadded v)) (named (unpadded v)) a in
-      both-true (isLive (k .session)) (same (unpadded v) (uidOf (k .numbers) (k .session .name))) (b .1) .0
-  items-live (Several n) h = absurd (unfine _ refl (h .0))
+      both-true (isUid (unpadded v)) (named (unpadded v)) a .1
+  items-name (Several n) h = absurd (unfine _ refl (h .0))
 
-  -- a reference to the session that stands well names a live one
-  pub reference-live : (found : Found) → AllFine (reference k l found) → isLive (k .session) ≡ true
-  reference-live Missing h = absurd (unfine _ refl (h .0))
-  reference-live (Value p) h = absurd (unfine _ refl (h .0))
-  reference-live (Sequence inside) h = items-live (itemsFound l (Sequence inside)) h
+  found-names : (found : Found) → AllFine (reference k l found) → any (sessionNamed (k .numbers) (referenced l (itemsFound l found))) (sessionsOf k) ≡ true
+  found-names Missing h = absurd (unfine _ refl (h .0))
+  found-names (Value p) h = absurd (unfine _ refl (h .0))
+  found-names (Sequence inside) h = items-name (itemsFound l (Sequence inside)) h
+
+  -- a reference that stands well names a live session
+  pub reference-live : AllFine (reference k l (look l 0x2010_0500)) → isLive (getD (sessionsOf k) (sessionIn k l) noSession) ≡ true
+  unfolding sessionIn
+  reference-live h =
+      let uid = referenced l (itemsIn l 0x2010_0500) in
+      let s = getD (sessionsOf k) (sessionIn k l) noSession in
+      both-true (isLive s) (same uid (uidOf (k .numbers) (s .name))) (place-passes (sessionNamed (k .numbers) uid) (sessionsOf k) noSession (found-names (look l 0x2010_0500) h)) .0

@@ -14,7 +14,7 @@ use Rattle.rules.specs.declared.Film.{Film}
 use Rattle.rules.specs.declared.Numbers.{Numbers}
 use Rattle.rules.specs.declared.Entry.{Entry}
 use Rattle.rules.specs.declared.Core.{Core}
-use Rattle.rules.specs.Records.{noEntry, entriesOf, queued, filmsOf, pictureUsed}
+use Rattle.rules.specs.Records.{noEntry, entriesOf, queued, pictureUsed, filmsUnder}
 use Rattle.rules.specs.declared.Image.{Image}
 use Rattle.rules.specs.Attributes.{imageIn, isFill}
 use Rattle.rules.specs.Effects.{nextTicket, entryOf, entriesFor, ticketAfter, printed, queueRoom, numbersAfter, filmAt}
@@ -145,8 +145,8 @@ module _ (k : Core) (c : Ticketed k) where
     setFilm = λ uid i l x y. c;
     setBox = λ uid i j l x y. rw (box-ticket (imageIn l) (k .numbers)) c;
     printSession = λ uid x y.
-        let room = ltb-false (queueRoom k) (length (filmsOf (k .shelf))) (y .1 .1 .0) in
-        printed-ticketed (filmsOf (k .shelf)) (omega (arith, c .few));
+        let room = ltb-false (queueRoom k) (length (filmsUnder 0 (k .shelf))) (y .1 .1 .0) in
+        printed-ticketed (filmsUnder 0 (k .shelf)) (omega (arith, c .few));
     printFilm = λ uid i x y.
         let room = ltb-false (queueRoom k) 1 (y .1 .0) in
         printed-ticketed (filmAt k i ∷ []) (omega (arith, c .few));

@@ -2,14 +2,13 @@
 -- Assumes nothing.
 use Prim.Native.Nat.{ℕ, _-_, _≤_}
 use mathlib.Core.Path.{_≡_, refl, ap, _∙_}
-use mathlib.Core.Bool.{Bool, true, false}
+use mathlib.Core.Bool.{Bool, true}
 use mathlib.Core.List.{List, [], _∷_}
 use native.Mathlib.Omega.{arith}
 use lib.Dec.{eqb}
 use lib.ListN.{length, take, drop, replicate, length-drop, take-append-drop}
 use lib.Seq.{length-take-le}
 use borrow.Author.Tests.{leb-true, eqb-true}
-use Rattle.choice.specs.Pick.{pick}
 use Rattle.rules.specs.declared.Picture.{Picture}
 use Rattle.rules.specs.declared.Name.{Name}
 use Rattle.rules.specs.declared.ImageBox.{ImageBox}
@@ -20,11 +19,11 @@ use Rattle.rules.specs.declared.Queue.{Queue}
 use Rattle.rules.specs.declared.Core.{Core}
 use Rattle.rules.specs.Bounds.{mostFilms, mostBoxes, mostEntries}
 use Rattle.rules.specs.Lists.{every, filledTo}
-use Rattle.rules.specs.Records.{serial, picture, noName, noBox, noFilm, filmsOf, shelved, noEntry, entriesOf, queued, isLive}
+use Rattle.rules.specs.Records.{serial, picture, noName, noBox, noFilm, filmsOf, shelved, noEntry, entriesOf, queued, sessionsOf}
 use Rattle.rules.specs.Sound.{zeros, nameBlank, boxBlank, filmBlank, entryBlank, coreSound}
 use Rattle.promises.proofs.ListLaws.{Each, each-drop, each-told, each-so, all-true}
 use Rattle.promises.proofs.Sized.{NameSized, FilmSized, EntrySized, Sized}
-use Rattle.promises.proofs.Facts.{core-facts, shelf-facts, queue-facts, filmRoom}
+use Rattle.promises.proofs.Facts.{core-facts, shelf-facts, queue-facts}
 
 -- Lists of one element.
 
@@ -73,21 +72,22 @@ blank-box b e =
     let t = each-zero (b .position ∷ b .polarity ∷ b .picture .0 ∷ []) e in
     box-of (b .position) (b .polarity) (b .picture .0) (t .0) (t .1 .0) (t .1 .1 .0)
 
-film-of : (name : Name) (kind lines : ℕ) (counts : List ℕ) (orientation magnification first : ℕ) (boxes : List ImageBox) → name ≡ noName → kind ≡ 0 → lines ≡ 0 → counts ≡ replicate 6 0 → orientation ≡ 0 → magnification ≡ 0 → first ≡ 0 → boxes ≡ replicate mostBoxes noBox → _≡_ {A = Film} (record { name = name; layout = record { kind = kind; lines = lines; counts = counts }; orientation = orientation; magnification = magnification; first = serial first; boxes = boxes }) noFilm
-film-of name kind lines counts orientation magnification first boxes d e f g h i j k = rw (d, e, f, g, h, i, j, k)
+film-of : (name : Name) (session kind lines : ℕ) (counts : List ℕ) (orientation magnification first : ℕ) (boxes : List ImageBox) → name ≡ noName → session ≡ 0 → kind ≡ 0 → lines ≡ 0 → counts ≡ replicate 6 0 → orientation ≡ 0 → magnification ≡ 0 → first ≡ 0 → boxes ≡ replicate mostBoxes noBox → _≡_ {A = Film} (record { name = name; session = session; layout = record { kind = kind; lines = lines; counts = counts }; orientation = orientation; magnification = magnification; first = serial first; boxes = boxes }) noFilm
+film-of name session kind lines counts orientation magnification first boxes c d e f g h i j k = rw (c, d, e, f, g, h, i, j, k)
 
 blank-film : (f : Film) → filmBlank f ≡ true → FilmSized f → f ≡ noFilm
 blank-film f e s =
     let t = all-true _ e in
-    let z = each-zero (f .layout .kind ∷ f .layout .lines ∷ f .orientation ∷ f .magnification ∷ f .first .0 ∷ []) (t .1 .0) in
-    film-of (f .name) (f .layout .kind) (f .layout .lines) (f .layout .counts) (f .orientation) (f .magnification) (f .first .0) (f .boxes)
+    let z = each-zero (f .session ∷ f .layout .kind ∷ f .layout .lines ∷ f .orientation ∷ f .magnification ∷ f .first .0 ∷ []) (t .1 .0) in
+    film-of (f .name) (f .session) (f .layout .kind) (f .layout .lines) (f .layout .counts) (f .orientation) (f .magnification) (f .first .0) (f .boxes)
     (blank-name (f .name) (t .0) (s .name))
     (z .0)
     (z .1 .0)
-    (all-zero 6 (f .layout .counts) (s .counts) (t .1 .1 .0))
     (z .1 .1 .0)
+    (all-zero 6 (f .layout .counts) (s .counts) (t .1 .1 .0))
     (z .1 .1 .1 .0)
     (z .1 .1 .1 .1 .0)
+    (z .1 .1 .1 .1 .1 .0)
     (all-alike noBox mostBoxes (f .boxes) (s .boxes) (each-told (λ (b : ImageBox). b ≡ noBox) boxBlank blank-box (f .boxes) (t .1 .1 .1 .0)))
 
 no-picture : (p : Picture) → eqb (p .0) 0 ≡ true → p ≡ picture 0
@@ -108,14 +108,8 @@ blank-entry e h s =
 
 -- The shelf.
 
-few-films : (live : Bool) (n : ℕ) → n ≤ pick live mostFilms 0 → n ≤ mostFilms
-few-films true n h = h
-few-films false n h = omega arith
-
 pub shelf-few : (k : Core) → coreSound k ≡ true → k .shelf .count ≤ mostFilms
-shelf-few k e =
-    let f = shelf-facts (k .numbers) (k .session) (k .shelf) (core-facts k e .shelf) in
-    few-films (isLive (k .session)) (k .shelf .count) (leb-true (k .shelf .count) (filmRoom (k .session)) (f .count))
+shelf-few k e = leb-true (k .shelf .count) mostFilms (shelf-facts (k .numbers) (sessionsOf k) (k .shelf) (core-facts k e .shelf) .count)
 
 shelf-of : (count : ℕ) (places : List Film) → Tidy mostFilms noFilm count places → _≡_ {A = Shelf} (shelved (take count places)) (record { count = count; films = places })
 unfolding shelved
@@ -124,7 +118,7 @@ shelf-of count places t = rw (t .filled, t .counted)
 pub tidy-shelf : (k : Core) → coreSound k ≡ true → Sized k → shelved (filmsOf (k .shelf)) ≡ k .shelf
 unfolding filmsOf
 tidy-shelf k e s =
-    let f = shelf-facts (k .numbers) (k .session) (k .shelf) (core-facts k e .shelf) in
+    let f = shelf-facts (k .numbers) (sessionsOf k) (k .shelf) (core-facts k e .shelf) in
     shelf-of (k .shelf .count) (k .shelf .films)
     (tidied noFilm filmBlank FilmSized blank-film mostFilms (k .shelf .count) (k .shelf .films) (shelf-few k e) (s .shelf .films) (s .shelf .each) (f .behind))
 

@@ -16,8 +16,8 @@ use Rattle.strike.specs.declared.Reading.{Reading}
 use Rattle.strike.specs.declared.Reading.the-variants.{NotReadable, Alone, WithData}
 use Rattle.strike.specs.Service.{DataSet, whole, tooLong, Result, fails, does, Call, start, opening, feed, close, aside, passes}
 use Rattle.strike.specs.Machine as machine
-use Rattle.strike.specs.Machine.{commandLimit, Fragment, command, dataset, idle, inCommand, skippingCommand, inData, skippingData, Outcome, ignores, waits, drops, asks, Records, controlByte, headerWrong, fragmentIn, skips, reads, gathers, overflows, stores, collect, carriedOut, fed, checked, step}
-use Rattle.rules.specs.Bounds.{mostRoom, mostFilms, mostEntries}
+use Rattle.strike.specs.Machine.{command, commandLimit, Fragment, dataset, idle, inCommand, skippingCommand, inData, skippingData, Outcome, ignores, waits, drops, asks, Records, controlByte, headerWrong, fragmentIn, skips, reads, gathers, overflows, stores, collect, carriedOut, fed, checked, step}
+use Rattle.rules.specs.Bounds.{mostRoom, mostFilms, mostEntries, mostSessions}
 use Rattle.rules.specs.declared.Name.{Name}
 use Rattle.rules.specs.declared.Session.{Session}
 use Rattle.rules.specs.declared.Film.{Film}
@@ -35,8 +35,9 @@ use Rattle.rules.specs.Records.{commandHeld}
 use Rattle.promises.proofs.ListLaws.{Each, each-all, each-append, each-take, each-drop}
 use Rattle.promises.proofs.Steps.{step-cases}
 use Rattle.promises.proofs.Packed.{state-laws}
-use Rattle.promises.proofs.Sized.{NameSized, SessionSized, FilmSized, ShelfSized, EntrySized, QueueSized, NumbersSized, Sized}
+use Rattle.promises.proofs.Sized.{NameSized, SessionSized, SessionsSized, FilmSized, ShelfSized, EntrySized, QueueSized, NumbersSized, Sized}
 use Rattle.promises.proofs.Good.{Byte, CommandFits, InputFits}
+use Rattle.fields.specs.Format.{array}
 
 -- Records that fit their fields have arrays of their lengths.
 
@@ -50,7 +51,7 @@ session-long s g = record { name = name-long (s .name) (g .1 .0); label = g .1 .
 
 film-long : (f : Film) → filmFormat .Good f → FilmSized f
 unfolding filmFormat layoutFormat
-film-long f g = record { name = name-long (f .name) (g .0); counts = g .1 .0 .1 .1 .0; boxes = g .1 .1 .1 .1 .1 .0 }
+film-long f g = record { name = name-long (f .name) (g .0); counts = g .1 .1 .0 .1 .1 .0; boxes = g .1 .1 .1 .1 .1 .1 .0 }
 
 entry-long : (x : Entry) → entryFormat .Good x → EntrySized x
 unfolding entryFormat
@@ -78,11 +79,19 @@ numbers-long : (n : Numbers) → numbersFormat .Good n → NumbersSized n
 unfolding numbersFormat
 numbers-long n g = record { root = g .1 .0 .0; ticket = g .1 .1 .1 .1 }
 
+sessions-long : (sessions : List Session) → array mostSessions sessionFormat .Good sessions → SessionsSized sessions
+sessions-long sessions g =
+    let e : length sessions ≡ mostSessions = g .0 in
+    record {
+      places = e;
+      each = each-all SessionSized sessions (sessionFormat .blank) (λ i h. session-long (getD sessions i (sessionFormat .blank)) (g .1 i (omega arith)));
+    }
+
 core-long : (k : Core) → coreFormat .Good k → Sized k
 unfolding coreFormat
 core-long k g = record {
   numbers = numbers-long (k .numbers) (g .0);
-  session = session-long (k .session) (g .1 .0);
+  sessions = sessions-long (k .sessions) (g .1 .0);
   shelf = shelf-long (k .shelf) (g .1 .1 .0);
   queue = queue-long (k .queue) (g .1 .1 .1 .0);
 }

@@ -16,6 +16,7 @@ use rules::Opened;
 use rules::Picture;
 use rules::Queue;
 use rules::ROOT;
+use rules::SESSIONS;
 use rules::Serial;
 use rules::Session;
 use rules::Shelf;
@@ -25,7 +26,7 @@ ghost use mathlib.Core.Path.{_≡_};
 ghost use Prim.Native.Nat.{_+_, _*_, _≤_};
 ghost use lib.ListN.{length};
 ghost use Rattle.fields.specs.Format.{write, array};
-ghost use Rattle.rules.specs.Bounds.{mostFilms, mostBoxes, mostEntries};
+ghost use Rattle.rules.specs.Bounds.{mostSessions, mostFilms, mostBoxes, mostEntries};
 ghost use Rattle.rules.specs.Layout.{serialSize, pictureSize, nameSize, boxSize, layoutSize, sessionSize, numbersSize, openedSize, inputSize, filmSize, shelfSize, entrySize, queueSize, coreSize, recordsSize, serialFormat, pictureFormat, nameFormat, boxFormat, layoutFormat, sessionFormat, numbersFormat, openedFormat, inputFormat, filmFormat, shelfFormat, entryFormat, queueFormat, coreFormat, stateFormat};
 
 // How many bytes each has: its fields, one behind the other.
@@ -47,7 +48,7 @@ pub const OPENED: usize = 1 + 1 + 1 + 4;
 
 pub const INPUT: usize = 1 + 2 + 4 + COMMAND;
 
-pub const FILM: usize = NAME + LAYOUT + 1 + 1 + SERIAL + BOXES * IMAGE_BOX;
+pub const FILM: usize = NAME + 1 + LAYOUT + 1 + 1 + SERIAL + BOXES * IMAGE_BOX;
 
 pub const SHELF: usize = 1 + FILMS * FILM;
 
@@ -57,7 +58,9 @@ pub const ENTRY: usize = PICTURES + 2 + 1 + NAME;
 
 pub const QUEUE: usize = 1 + ENTRIES * ENTRY;
 
-pub const CORE: usize = NUMBERS + SESSION + SHELF + QUEUE + OPENED;
+pub const PLACES: usize = SESSIONS * SESSION;
+
+pub const CORE: usize = NUMBERS + PLACES + SHELF + QUEUE + OPENED;
 
 pub const RECORDS: usize = CORE + INPUT;
 
@@ -233,6 +236,34 @@ pub fn put_session(s: &mut [u8], p: usize, x: Session)
     fields::put_bytes64(s, p7, label);
 }
 
+// Session i of those that stand from p on.
+fn nth_session(s: &[u8], p: usize, i: usize) -> Session
+    requires { ⌜ p + (i + 1) * sessionSize ≤ length (now s) ⌝ }
+    ensures { λ r. ⌜ r ≡ sessionFormat .read (now (s .entry)) (p + i * sessionFormat .size) ⌝ }
+{
+    session_at(s, p + i * SESSION)
+}
+
+fn sessions_at(s: &[u8], p: usize) -> [Session; SESSIONS]
+    requires { ⌜ p + mostSessions * sessionSize ≤ length (now s) ⌝ }
+    ensures { λ r. ⌜ r ≡ array mostSessions sessionFormat .read (now (s .entry)) p ⌝ }
+{
+    [nth_session(s, p, 0)]
+}
+
+fn put_sessions(s: &mut [u8], p: usize, a: [Session; SESSIONS])
+    requires { ⌜ p + mostSessions * sessionSize ≤ length (now s) ⌝ }
+    ensures { λ _. ⌜ now (s .exit) ≡ write (array mostSessions sessionFormat) a (now (s .entry)) p ⌝ }
+{
+    let xs = a;
+    let mut i = 0;
+    while i < SESSIONS {
+        let x = xs[i];
+        put_session(s, p + i * SESSION, x);
+        i += 1;
+    }
+}
+
 pub fn numbers_at(s: &[u8], p: usize) -> Numbers
     requires { ⌜ p + numbersSize ≤ length (now s) ⌝ }
     ensures { λ r. ⌜ r ≡ numbersFormat .read (now (s .entry)) p ⌝ }
@@ -369,17 +400,20 @@ pub fn film_at(s: &[u8], p: usize) -> Film
 {
     let name = name_at(s, p);
     let p1 = p + NAME;
-    let layout = layout_at(s, p1);
-    let p2 = p1 + LAYOUT;
-    let orientation = s[p2];
-    let p3 = p2 + 1;
-    let magnification = s[p3];
+    let session = s[p1];
+    let p2 = p1 + 1;
+    let layout = layout_at(s, p2);
+    let p3 = p2 + LAYOUT;
+    let orientation = s[p3];
     let p4 = p3 + 1;
-    let first = serial_at(s, p4);
-    let p5 = p4 + SERIAL;
-    let boxes = boxes_at(s, p5);
+    let magnification = s[p4];
+    let p5 = p4 + 1;
+    let first = serial_at(s, p5);
+    let p6 = p5 + SERIAL;
+    let boxes = boxes_at(s, p6);
     Film {
         name,
+        session,
         layout,
         orientation,
         magnification,
@@ -395,18 +429,20 @@ pub fn put_film(s: &mut [u8], p: usize, x: Film)
     let name = x.name;
     put_name(s, p, name);
     let p1 = p + NAME;
+    fields::put_byte(s, p1, x.session);
+    let p2 = p1 + 1;
     let layout = x.layout;
-    put_layout(s, p1, layout);
-    let p2 = p1 + LAYOUT;
-    fields::put_byte(s, p2, x.orientation);
-    let p3 = p2 + 1;
-    fields::put_byte(s, p3, x.magnification);
+    put_layout(s, p2, layout);
+    let p3 = p2 + LAYOUT;
+    fields::put_byte(s, p3, x.orientation);
     let p4 = p3 + 1;
+    fields::put_byte(s, p4, x.magnification);
+    let p5 = p4 + 1;
     let first = x.first;
-    put_serial(s, p4, first);
-    let p5 = p4 + SERIAL;
+    put_serial(s, p5, first);
+    let p6 = p5 + SERIAL;
     let boxes = x.boxes;
-    put_boxes(s, p5, boxes);
+    put_boxes(s, p6, boxes);
 }
 
 // Film i of those that stand from p on.
@@ -598,8 +634,8 @@ pub fn core_at(s: &[u8], p: usize) -> Core
 {
     let numbers = numbers_at(s, p);
     let p1 = p + NUMBERS;
-    let session = session_at(s, p1);
-    let p2 = p1 + SESSION;
+    let sessions = sessions_at(s, p1);
+    let p2 = p1 + PLACES;
     let shelf = shelf_at(s, p2);
     let p3 = p2 + SHELF;
     let queue = queue_at(s, p3);
@@ -607,7 +643,7 @@ pub fn core_at(s: &[u8], p: usize) -> Core
     let opened = opened_at(s, p4);
     Core {
         numbers,
-        session,
+        sessions,
         shelf,
         queue,
         opened,
@@ -621,9 +657,9 @@ pub fn put_core(s: &mut [u8], p: usize, x: Core)
     let numbers = x.numbers;
     put_numbers(s, p, numbers);
     let p1 = p + NUMBERS;
-    let session = x.session;
-    put_session(s, p1, session);
-    let p2 = p1 + SESSION;
+    let sessions = x.sessions;
+    put_sessions(s, p1, sessions);
+    let p2 = p1 + PLACES;
     let shelf = x.shelf;
     put_shelf(s, p2, shelf);
     let p3 = p2 + SHELF;

@@ -11,13 +11,13 @@ use Rattle.writing.specs.Bytes.{padded, tagOctets, vrOctets, headerSize, plain,
 use Rattle.fields.specs.Format.{readAll, bytesAll}
 use Rattle.strike.proofs.Opened.{theMachine}
 use Rattle.rules.specs.Text.{chars}
-use Rattle.rules.specs.Lists.{every, any, placeOf, apart, sum, from}
+use Rattle.rules.specs.Lists.{every, any, placeOf, apart, sum, from, those}
 use Rattle.rules.specs.Values.{withoutLeading, withoutTrailing, trimmed, blank, withoutPlus, decimalValue, countIn, codeIn, labelAllowed, standard, listed, numbersIn, uneven, kindIn, countsIn}
 use Rattle.rules.specs.Positions.{spotOf}
-use Rattle.rules.specs.Records.{rootOf, uidOf, boxCount, boxesOf, filmsOf, shelved, entriesOf, queued, boxUids, named}
+use Rattle.rules.specs.Records.{rootOf, uidOf, boxCount, boxesOf, filmsOf, shelved, filmsUnder, entriesOf, queued, boxUids, named}
 use Rattle.rules.specs.Layout.{serialFormat, pictureFormat, nameFormat, sessionFormat, boxFormat, layoutFormat, filmFormat, shelfFormat, entryFormat, queueFormat, numbersFormat, openedFormat, coreFormat, inputFormat, stateFormat, unpack, pack}
 use Rattle.rules.specs.Commands.{bytesOf, uidAt, groupZero, lengthTold, wellFormed, hasData, requestIn, understood}
-use Rattle.rules.specs.Attributes.{sessionStandings, sessionWith, optionalFilm, filmCreateStandings, filmSetStandings, filmWith, layoutIn, imageStandings, imageIn, boxStandings, boxWith}
+use Rattle.rules.specs.Attributes.{sessionStandings, sessionWith, optionalFilm, filmCreateStandings, filmSetStandings, filmWith, sessionIn, layoutIn, imageStandings, imageIn, boxStandings, boxWith}
 use Rattle.rules.specs.Responses.{responseElements, responseTree, reply, boxItems, filmTree}
 use Rattle.rules.specs.Effects.{sessionCreated, newFilm, filmCreated, sessionSet, filmSet, boxSet, sessionDeleted, filmDeleted, pictureOn, entryOf, entriesFor, ticketAfter, printed, filledBoxes}
 use Rattle.rules.specs.Checks.{classOf, generalRules, createRules, targetRules, createPlan, setPlan, actionPlan, deletePlan, planOf, decideRequest, decide}
@@ -26,5 +26,5 @@ use Rattle.rules.specs.Sound.{nameSound, numbersSound, layoutSound, film
 use Rattle.rules.specs.Outcomes as outcomes
 
 unfoldable pub theBook : Unit {0}
-unfolding numberAt octets same digits component components isUid unpadded beginsWith lastDigits decimal made namedVr formOf implicitVr differs syntaxOf tagAt sizeAt vrAt lengthAt vrWrong lengthHead headAt itemHeadAt closeAt elementsFrom itemsOf findAt itemsAt walk trail listStep listFrom itemWith itemStep itemsFrom elementAt listAt itemAt dataSet padded tagOctets vrOctets headerSize plain header element written writtenItems readAll bytesAll theMachine chars every any placeOf apart sum from withoutLeading withoutTrailing trimmed blank withoutPlus decimalValue countIn codeIn labelAllowed standard listed numbersIn uneven kindIn countsIn spotOf rootOf uidOf boxCount boxesOf filmsOf shelved entriesOf queued boxUids named serialFormat pictureFormat nameFormat sessionFormat boxFormat layoutFormat filmFormat shelfFormat entryFormat queueFormat numbersFormat openedFormat coreFormat inputFormat stateFormat unpack pack bytesOf uidAt groupZero lengthTold wellFormed hasData requestIn understood sessionStandings sessionWith optionalFilm filmCreateStandings filmSetStandings filmWith layoutIn imageStandings imageIn boxStandings boxWith responseElements responseTree reply boxItems filmTree sessionCreated newFilm filmCreated sessionSet filmSet boxSet sessionDeleted filmDeleted pictureOn entryOf entriesFor ticketAfter printed filledBoxes classOf generalRules createRules targetRules createPlan setPlan actionPlan deletePlan planOf decideRequest decide check started opened closed pictureBytes entryBytes taken reading nameSound numbersSound layoutSound filmSound shelfSound entrySound queueSound serialsOf uidsApart openedSound coreSound inputSound sound outcomes.inputIn outcomes.inputHeld outcomes.written outcomes.coreWritten outcomes.reportBytes outcomes.numberOf outcomes.starts outcomes.opens outcomes.closes outcomes.takes outcomes.feeds
+unfolding numberAt octets same digits component components isUid unpadded beginsWith lastDigits decimal made namedVr formOf implicitVr differs syntaxOf tagAt sizeAt vrAt lengthAt vrWrong lengthHead headAt itemHeadAt closeAt elementsFrom itemsOf findAt itemsAt walk trail listStep listFrom itemWith itemStep itemsFrom elementAt listAt itemAt dataSet padded tagOctets vrOctets headerSize plain header element written writtenItems readAll bytesAll theMachine chars every any placeOf apart sum from those withoutLeading withoutTrailing trimmed blank withoutPlus decimalValue countIn codeIn labelAllowed standard listed numbersIn uneven kindIn countsIn spotOf rootOf uidOf boxCount boxesOf filmsOf shelved filmsUnder entriesOf queued boxUids named serialFormat pictureFormat nameFormat sessionFormat boxFormat layoutFormat filmFormat shelfFormat entryFormat queueFormat numbersFormat openedFormat coreFormat inputFormat stateFormat unpack pack bytesOf uidAt groupZero lengthTold wellFormed hasData requestIn understood sessionStandings sessionWith optionalFilm filmCreateStandings filmSetStandings filmWith sessionIn layoutIn imageStandings imageIn boxStandings boxWith responseElements responseTree reply boxItems filmTree sessionCreated newFilm filmCreated sessionSet filmSet boxSet sessionDeleted filmDeleted pictureOn entryOf entriesFor ticketAfter printed filledBoxes classOf generalRules createRules targetRules createPlan setPlan actionPlan deletePlan planOf decideRequest decide check started opened closed pictureBytes entryBytes taken reading nameSound numbersSound layoutSound filmSound shelfSound entrySound queueSound serialsOf uidsApart openedSound coreSound inputSound sound outcomes.inputIn outcomes.inputHeld outcomes.written outcomes.coreWritten outcomes.reportBytes outcomes.numberOf outcomes.starts outcomes.opens outcomes.closes outcomes.takes outcomes.feeds
 theBook = tt

@@ -90,7 +90,7 @@ abbrev two : Layout
 two = layoutOf 1 1 (2 ∷ none 5)
 
 abbrev filmOf : Name → Layout → ℕ → ℕ → ℕ → List ImageBox → Film
-filmOf name layout orientation magnification first boxes = record { name = name; layout = layout; orientation = orientation; magnification = magnification; first = serial first; boxes = boxes }
+filmOf name layout orientation magnification first boxes = record { name = name; session = 0; layout = layout; orientation = orientation; magnification = magnification; first = serial first; boxes = boxes }
 
 abbrev boxesOf : ImageBox → ImageBox → ImageBox → List ImageBox
 boxesOf a b behind = filledTo 36 noBox (a ∷ b ∷ behind ∷ [])
@@ -104,6 +104,10 @@ film = filmOf (sentName (chars "1.9.70.5")) two 1 3 105 boxes
 -- the same by a serial of its own, with its boxes from another on
 abbrev made : ℕ → ℕ → Film
 made own first = filmOf (madeName own) two 0 0 first boxes
+
+-- the same of the session at another place
+abbrev elsewhere : ℕ → Film → Film
+elsewhere i f = record { name = f .name; session = i; layout = f .layout; orientation = f .orientation; magnification = f .magnification; first = f .first; boxes = f .boxes }
 
 -- An entry.
 
@@ -135,7 +139,7 @@ behindEcho = replicate (1024 - length echo) 0
 
 abbrev stateOf : Numbers → Session → Shelf → Queue → Opened → Input → State
 stateOf numbers session shelf queue opened input = record {
-  core = record { numbers = numbers; session = session; shelf = shelf; queue = queue; opened = opened };
+  core = record { numbers = numbers; sessions = session ∷ []; shelf = shelf; queue = queue; opened = opened };
   input = input;
 }
 
@@ -160,10 +164,12 @@ parts =
     ∷ gives (each (filmSound numbers) (filmOf noName two 1 3 105 boxes ∷ filmOf (madeName 100) (layoutOf 3 1 (2 ∷ none 5)) 1 3 105 boxes ∷ filmOf (madeName 100) two 2 3 105 boxes ∷ filmOf (madeName 100) two 1 4 105 boxes ∷ filmOf (madeName 100) two 1 3 0 boxes ∷ filmOf (madeName 100) two 1 3 106 boxes ∷ [])) (none 6)
     ∷ gives (each (filmSound numbers) (filmOf (madeName 100) two 1 3 105 (boxesOf (boxOf 0 1 2) (boxOf 1 0 0) noBox) ∷ filmOf (madeName 100) two 1 3 105 (boxesOf (boxOf 2 1 2) (boxOf 3 0 0) noBox) ∷ filmOf (madeName 100) two 1 3 105 (boxesOf (boxOf 2 2 2) (boxOf 1 0 0) noBox) ∷ filmOf (madeName 100) two 1 3 105 (boxesOf (boxOf 2 1 3) (boxOf 1 0 0) noBox) ∷ filmOf (madeName 100) two 1 3 105 (boxesOf (boxOf 2 1 2) (boxOf 1 0 0) (boxOf 1 0 0)) ∷ filmOf (madeName 100) two 1 3 105 (boxesOf (boxOf 2 1 2) (boxOf 1 0 0) (boxOf 0 1 0)) ∷ filmOf (madeName 100) two 1 3 105 (boxesOf (boxOf 2 1 2) (boxOf 1 0 0) (boxOf 0 0 1)) ∷ [])) (none 7)
     -- no film: zeros
-    ∷ gives (each filmBlank (noFilm ∷ filmOf (madeName 1) (layoutOf 0 0 (none 6)) 0 0 0 (replicate 36 noBox) ∷ filmOf noName (layoutOf 1 0 (none 6)) 0 0 0 (replicate 36 noBox) ∷ filmOf noName (layoutOf 0 1 (none 6)) 0 0 0 (replicate 36 noBox) ∷ filmOf noName (layoutOf 0 0 (none 5 ++ (1 ∷ []))) 0 0 0 (replicate 36 noBox) ∷ filmOf noName (layoutOf 0 0 (none 6)) 1 0 0 (replicate 36 noBox) ∷ filmOf noName (layoutOf 0 0 (none 6)) 0 1 0 (replicate 36 noBox) ∷ filmOf noName (layoutOf 0 0 (none 6)) 0 0 1 (replicate 36 noBox) ∷ filmOf noName (layoutOf 0 0 (none 6)) 0 0 0 (replicate 35 noBox ++ (boxOf 0 0 1 ∷ [])) ∷ [])) (1 ∷ none 8)
+    ∷ gives (each filmBlank (noFilm ∷ elsewhere 1 noFilm ∷ filmOf (madeName 1) (layoutOf 0 0 (none 6)) 0 0 0 (replicate 36 noBox) ∷ filmOf noName (layoutOf 1 0 (none 6)) 0 0 0 (replicate 36 noBox) ∷ filmOf noName (layoutOf 0 1 (none 6)) 0 0 0 (replicate 36 noBox) ∷ filmOf noName (layoutOf 0 0 (none 5 ++ (1 ∷ []))) 0 0 0 (replicate 36 noBox) ∷ filmOf noName (layoutOf 0 0 (none 6)) 1 0 0 (replicate 36 noBox) ∷ filmOf noName (layoutOf 0 0 (none 6)) 0 1 0 (replicate 36 noBox) ∷ filmOf noName (layoutOf 0 0 (none 6)) 0 0 1 (replicate 36 noBox) ∷ filmOf noName (layoutOf 0 0 (none 6)) 0 0 0 (replicate 35 noBox ++ (boxOf 0 0 1 ∷ [])) ∷ [])) (1 ∷ none 9)
     -- "films only under it", at most 8, each sound, blanks behind them
-    ∷ gives (each (shelfSound numbers session) (shelved (film ∷ []) ∷ shelved (replicate 8 film) ∷ shelved (replicate 9 film) ∷ shelved (made 107 1 ∷ []) ∷ shelfOf 0 (film ∷ []) ∷ [])) (1 ∷ 1 ∷ none 3)
-    ∷ gives (each (shelfSound numbers noSession) (shelved [] ∷ shelved (film ∷ []) ∷ [])) (1 ∷ 0 ∷ [])
+    ∷ gives (each (shelfSound numbers (session ∷ [])) (shelved (film ∷ []) ∷ shelved (replicate 8 film) ∷ shelved (replicate 9 film) ∷ shelved (made 107 1 ∷ []) ∷ shelfOf 0 (film ∷ []) ∷ [])) (1 ∷ 1 ∷ none 3)
+    ∷ gives (each (shelfSound numbers (noSession ∷ [])) (shelved [] ∷ shelved (film ∷ []) ∷ [])) (1 ∷ 0 ∷ [])
+    -- by its own place, whatever the others hold
+    ∷ gives (each (shelfSound numbers (noSession ∷ session ∷ [])) (shelved (elsewhere 1 film ∷ []) ∷ shelved (film ∷ []) ∷ shelved (elsewhere 2 film ∷ []) ∷ [])) (1 ∷ 0 ∷ 0 ∷ [])
     -- an entry: pictures below the next, copies, a name
     ∷ gives (each (entrySound numbers) (entry ∷ entryOf 0 0 1 (madeName 104) ∷ entryOf 3 0 1 (madeName 104) ∷ entryOf 2 0 0 (madeName 104) ∷ entryOf 2 0 100 (madeName 104) ∷ entryOf 2 0 1 (madeName 107) ∷ [])) (1 ∷ 1 ∷ none 4)
     ∷ gives (each entryBlank (noEntry ∷ entryOf 1 0 0 noName ∷ entryOf 0 1 0 noName ∷ entryOf 0 0 1 noName ∷ entryOf 0 0 0 (madeName 1) ∷ [])) (1 ∷ none 4)
@@ -173,12 +179,12 @@ parts =
 
 pub parts-hold : AllHold parts
 unfolding theBook
-parts-hold = (refl, (refl, (refl, (refl, (refl, (refl, (refl, (refl, (refl, (refl, (refl, (refl, (refl, (refl, (refl, (refl, (refl, (refl, tt))))))))))))))))))
+parts-hold = (refl, (refl, (refl, (refl, (refl, (refl, (refl, (refl, (refl, (refl, (refl, (refl, (refl, (refl, (refl, (refl, (refl, (refl, (refl, tt)))))))))))))))))))
 
 -- "UIDs differ": session and film, a film and its boxes, boxes of two films, sent ones; neighbours, and made ones, which have no text, do.
 
 abbrev apartFrom : Session → List (List Film) → List ℕ
-apartFrom s films = each (uidsApart s) films
+apartFrom s films = each (uidsApart (s ∷ [])) films
 
 abbrev sentSession : Session
 sentSession = sessionOf 1 (sentName (chars "1.2.3")) 1 0 0 0 [] (replicate 64 0)
@@ -191,6 +197,8 @@ wholes =
     gives (apartFrom session ((made 101 102 ∷ made 104 105 ∷ []) ∷ (made 104 105 ∷ made 101 102 ∷ []) ∷ [])) (1 ∷ 1 ∷ [])
     ∷ gives (apartFrom session ((made 100 102 ∷ []) ∷ (made 101 99 ∷ []) ∷ (made 101 100 ∷ []) ∷ (made 101 101 ∷ []) ∷ (made 102 101 ∷ []) ∷ (made 101 102 ∷ made 101 105 ∷ []) ∷ (made 101 102 ∷ made 104 103 ∷ []) ∷ (made 101 103 ∷ made 106 102 ∷ []) ∷ [])) (none 8)
     ∷ gives (apartFrom sentSession ((named (chars "1.2.4") 102 ∷ named (chars "1.2.5") 104 ∷ []) ∷ (named (chars "1.2.3") 102 ∷ []) ∷ (named (chars "1.2.4") 102 ∷ named (chars "1.2.4") 104 ∷ []) ∷ [])) (1 ∷ 0 ∷ 0 ∷ [])
+    -- two sessions by a serial, and by what was sent
+    ∷ gives (each (λ sessions. uidsApart sessions (made 101 102 ∷ [])) ((session ∷ noSession ∷ sentSession ∷ []) ∷ (session ∷ session ∷ []) ∷ (sentSession ∷ sentSession ∷ []) ∷ [])) (1 ∷ 0 ∷ 0 ∷ [])
     -- what open fixed: an odd context number to 255, a syntax, a length within the limits; zeros where not open
     ∷ gives (each openedSound (opened ∷ openedOf 1 1 1 16777216 ∷ notOpen ∷ [])) (1 ∷ 1 ∷ 1 ∷ [])
     ∷ gives (each openedSound (openedOf 2 255 2 4096 ∷ openedOf 1 254 2 4096 ∷ openedOf 1 257 2 4096 ∷ openedOf 1 255 0 4096 ∷ openedOf 1 255 3 4096 ∷ openedOf 1 255 2 4095 ∷ openedOf 1 255 2 16777217 ∷ openedOf 0 1 0 0 ∷ openedOf 0 0 1 0 ∷ openedOf 0 0 0 1 ∷ [])) (none 10)
@@ -205,4 +213,4 @@ wholes =
 
 pub wholes-hold : AllHold wholes
 unfolding theBook
-wholes-hold = (refl, (refl, (refl, (refl, (refl, (refl, (refl, (refl, (refl, (refl, tt))))))))))
+wholes-hold = (refl, (refl, (refl, (refl, (refl, (refl, (refl, (refl, (refl, (refl, (refl, tt)))))))))))

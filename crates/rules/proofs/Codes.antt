@@ -43,6 +43,7 @@ sessionNumbers s = s .copies ∷ s .priority ∷ s .medium ∷ s .destination �
 abbrev someFilm : Film
 someFilm = record {
   name = noName;
+  session = 58;
   layout = noFilm .layout;
   orientation = 56;
   magnification = 57;

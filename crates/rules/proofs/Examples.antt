@@ -5,7 +5,7 @@ use mathlib.Core.List.{List, [], _∷_}
 use Rattle.headers.specs.declared.Syntax.the-variants.{Implicit, Explicit}
 use Rattle.strike.specs.Service.{noData, whole, Result}
 use Rattle.rules.specs.declared.Core.{Core}
-use Rattle.rules.specs.Records.{newSession}
+use Rattle.rules.specs.Records.{newSession, theSession}
 use Rattle.rules.specs.Attributes.{listingOf, sessionWith}
 use Rattle.rules.specs.Responses.{Reply}
 use Rattle.rules.specs.Checks.{decide}
@@ -24,7 +24,7 @@ abbrev pub examples : List Example
 examples =
     gives (sessionWith (listingOf p1 Implicit) newSession .copies ∷ []) (2 ∷ [])
     ∷ gives (sessionWith (listingOf p2 Explicit) newSession .copies ∷ []) (2 ∷ [])
-    ∷ gives (after nothingLive (decide nothingLive createSession (whole copies99)) .session .copies ∷ []) (99 ∷ [])
+    ∷ gives (theSession (after nothingLive (decide nothingLive createSession (whole copies99))) .copies ∷ []) (99 ∷ [])
     ∷ gives (status (decide nothingLive createSession (whole copies100)) ∷ []) (0x0106 ∷ [])
     ∷ gives (response P5) filmAnswer
     ∷ gives (responseData P5) boxesAnswer

@@ -93,7 +93,7 @@ rooms =
     ∷ gives (pictureAt 4294967295 ∷ pictureAt 4294967296 ∷ []) (0 ∷ 0x0213 ∷ [])
     -- "16 queue entries"
     ∷ gives (firstBroken (filmPrintRules (queuedBefore 15 filmLive) 0) ∷ firstBroken (filmPrintRules (queuedBefore 16 filmLive) 0) ∷ []) (0 ∷ 0xC602 ∷ [])
-    ∷ gives (firstBroken (sessionPrintRules (queuedBefore 14 (filmsOnShelf 2))) ∷ firstBroken (sessionPrintRules (queuedBefore 15 (filmsOnShelf 2))) ∷ firstBroken (sessionPrintRules (queuedBefore 16 sessionLive)) ∷ []) (0 ∷ 0xC601 ∷ 0xC600 ∷ [])
+    ∷ gives (firstBroken (sessionPrintRules (queuedBefore 14 (filmsOnShelf 2)) 0) ∷ firstBroken (sessionPrintRules (queuedBefore 15 (filmsOnShelf 2)) 0) ∷ firstBroken (sessionPrintRules (queuedBefore 16 sessionLive) 0) ∷ []) (0 ∷ 0xC601 ∷ 0xC600 ∷ [])
     -- "A ticket has 16 bits, and after 65,535 comes 0"
     ∷ gives (nextTicket 0 ∷ nextTicket 65534 ∷ nextTicket 65535 ∷ []) (1 ∷ 65535 ∷ 0 ∷ [])
     ∷ []

@@ -9,7 +9,7 @@ use Rattle.strike.specs.Service.{Call, start, feed, close, aside}
 use Rattle.strike.specs.Machine.{idle, Step, step}
 use Rattle.rules.specs.declared.Core.{Core}
 use Rattle.rules.specs.Text.{chars}
-use Rattle.rules.specs.Records.{noEntry, notOpen, withQueue}
+use Rattle.rules.specs.Records.{noEntry, theSession, notOpen, withQueue}
 use Rattle.rules.specs.Responses.{Reply}
 use Rattle.rules.specs.Calls as calls
 use Rattle.rules.specs.Calls.{Starting, Opening, Lengths, handed, withOpened, printing}
@@ -98,7 +98,7 @@ refusals =
     -- feed: five wrong headers, and a right one
     ∷ gives (fedWith (0 ∷ 0 ∷ 0 ∷ 1 ∷ 1 ∷ []) ∷ fedWith (0 ∷ 0 ∷ 0 ∷ 1 ∷ 1 ∷ 0 ∷ []) ∷ fedWith (0 ∷ 0 ∷ 0 ∷ 3 ∷ 1 ∷ 0 ∷ []) ∷ fedWith (0 ∷ 0 ∷ 0 ∷ 2 ∷ 3 ∷ 0 ∷ []) ∷ fedWith (0 ∷ 0 ∷ 0 ∷ 2 ∷ 1 ∷ 4 ∷ []) ∷ fedWith (0 ∷ 0 ∷ 0 ∷ 2 ∷ 1 ∷ 0 ∷ []) ∷ []) (5 ∷ 5 ∷ 5 ∷ 5 ∷ 5 ∷ 18 ∷ [])
     -- a wrong header ends the association as by close
-    ∷ gives (stepOf filmLive (feed [] answers) .records .core .session .live ∷ stepOf filmLive (feed [] answers) .records .core .shelf .count ∷ stepOf filmLive (feed [] answers) .records .core .opened .live ∷ []) (0 ∷ 0 ∷ 0 ∷ [])
+    ∷ gives (theSession (stepOf filmLive (feed [] answers) .records .core) .live ∷ stepOf filmLive (feed [] answers) .records .core .shelf .count ∷ stepOf filmLive (feed [] answers) .records .core .opened .live ∷ []) (0 ∷ 0 ∷ 0 ∷ [])
     -- close while not open, and while open
     ∷ gives (numberOf (stepOf shut close .answer) ∷ numberOf (stepOf filmLive close .answer) ∷ []) (4 ∷ 0 ∷ [])
     -- take: a short buffer, an empty queue; done

@@ -3,7 +3,7 @@
 use mathlib.Core.Path.{_≡_, refl}
 use Prim.Native.Nat.{_*_}
 use Rattle.fields.specs.Format.{array}
-use Rattle.rules.specs.Bounds.{mostBoxes}
+use Rattle.rules.specs.Bounds.{mostSessions, mostBoxes}
 use Rattle.rules.specs.Layout.{serialSize, pictureSize, nameSize, sessionSize, boxSize, layoutSize, filmSize, shelfSize, entrySize, queueSize, numbersSize, openedSize, coreSize, inputSize, recordsSize}
 use Rattle.rules.specs.Layout.{serialFormat, pictureFormat, nameFormat, boxFormat, layoutFormat, sessionFormat, numbersFormat, openedFormat, inputFormat, filmFormat, shelfFormat, entryFormat, queueFormat, coreFormat, stateFormat}
 
@@ -25,6 +25,9 @@ name-size = refl
 pub session-size : sessionFormat .size ≡ sessionSize
 unfolding sessionFormat
 session-size = rw name-size
+
+pub sessions-size : array mostSessions sessionFormat .size ≡ mostSessions * sessionSize
+sessions-size = rw session-size
 
 pub box-size : boxFormat .size ≡ boxSize
 unfolding boxFormat pictureFormat
@@ -60,7 +63,7 @@ opened-size = refl
 
 pub core-size : coreFormat .size ≡ coreSize
 unfolding coreFormat
-core-size = rw (numbers-size, session-size, shelf-size, queue-size, opened-size)
+core-size = rw (numbers-size, sessions-size, shelf-size, queue-size, opened-size)
 
 pub input-size : inputFormat .size ≡ inputSize
 unfolding inputFormat

@@ -17,7 +17,7 @@ use Rattle.rules.specs.declared.Session.{Session}
 use Rattle.rules.specs.Text.{chars}
 use Rattle.rules.specs.Lists.{filledTo}
 use Rattle.rules.specs.Values.{kindStandard}
-use Rattle.rules.specs.Records.{noName, serial, madeName, sentName, shelved, queued, noSession, newSession, noBox, noEntry, withFilms, withQueue}
+use Rattle.rules.specs.Records.{noName, serial, madeName, sentName, shelved, queued, noSessions, newSession, noBox, noEntry, withFilms, withQueue}
 use Rattle.rules.specs.Attributes.{Listing, listingOf, Standing, attributeRules, layoutFrom}
 use Rattle.rules.specs.Responses.{Reply}
 use Rattle.rules.specs.Effects.{newBox, renamed, withBoxes}
@@ -64,7 +64,7 @@ someSession = record { live = 1; name = noName; copies = 50; priority = 51; medi
 abbrev pub nothingLive : Core
 nothingLive = record {
   numbers = record { used = 5; root = filledTo 40 0 (chars "1.9.7"); serial = 100; picture = 1; ticket = 0 };
-  session = noSession;
+  sessions = noSessions;
   shelf = shelved [];
   queue = queued [];
   opened = record { live = 1; context = 1; syntax = 1; room = 4096 };
@@ -74,7 +74,7 @@ nothingLive = record {
 abbrev pub sessionLive : Core
 sessionLive = record {
   numbers = nothingLive .numbers;
-  session = renamed (sentName (chars "1.2.3")) newSession;
+  sessions = renamed (sentName (chars "1.2.3")) newSession ∷ [];
   shelf = shelved [];
   queue = queued [];
   opened = nothingLive .opened;
@@ -84,6 +84,7 @@ sessionLive = record {
 abbrev pub theFilm : Film
 theFilm = record {
   name = madeName 100;
+  session = 0;
   layout = layoutFrom kindStandard (2 ∷ 2 ∷ 2 ∷ []);
   orientation = 0;
   magnification = 2;
@@ -94,7 +95,7 @@ theFilm = record {
 abbrev pub filmLive : Core
 filmLive = record {
   numbers = record { used = 5; root = filledTo 40 0 (chars "1.9.7"); serial = 107; picture = 1; ticket = 0 };
-  session = sessionLive .session;
+  sessions = sessionLive .sessions;
   shelf = shelved (theFilm ∷ []);
   queue = queued [];
   opened = nothingLive .opened;
@@ -104,7 +105,7 @@ filmLive = record {
 abbrev pub withNumbersOf : ℕ → ℕ → Core → Core
 withNumbersOf serial picture k = record {
   numbers = record { used = k .numbers .used; root = k .numbers .root; serial = serial; picture = picture; ticket = k .numbers .ticket };
-  session = k .session;
+  sessions = k .sessions;
   shelf = k .shelf;
   queue = k .queue;
   opened = k .opened;

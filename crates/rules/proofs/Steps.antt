@@ -4,8 +4,8 @@ use mathlib.Core.Path.{refl}
 use Rattle.fields.proofs.Laws.{byte-laws, number-laws, array-laws}
 use Rattle.fields.proofs.Steps.{Steps, last, _sized_then-steps_, _then-steps_, via-steps}
 use Rattle.strike.specs.Machine.{commandLimit}
-use Rattle.rules.specs.Bounds.{mostBoxes, mostFilms, mostEntries, rootLimit}
-use Rattle.rules.proofs.Sizes.{serial-size, name-size, layout-size, pictures-size, numbers-size, session-size, shelf-size, queue-size, core-size}
+use Rattle.rules.specs.Bounds.{mostSessions, mostBoxes, mostFilms, mostEntries, rootLimit}
+use Rattle.rules.proofs.Sizes.{serial-size, name-size, layout-size, pictures-size, numbers-size, sessions-size, shelf-size, queue-size, core-size}
 use Rattle.rules.specs.Layout.{serialSize, pictureSize, serialFormat, pictureFormat, nameFormat, boxFormat, layoutFormat, sessionFormat, numbersFormat, openedFormat, inputFormat, filmFormat, shelfFormat, entryFormat, queueFormat, coreFormat, stateFormat}
 
 unfoldable pub serial-steps : Steps serialFormat
@@ -46,7 +46,7 @@ input-steps = via-steps _ _ (λ b. refl) (λ a. refl) (byte-laws then-steps numb
 
 unfoldable pub film-steps : Steps filmFormat
 unfolding filmFormat
-film-steps = via-steps _ _ (λ b. refl) (λ a. refl) (name-steps .laws sized name-size then-steps layout-steps .laws sized layout-size then-steps byte-laws then-steps byte-laws then-steps serial-steps .laws sized serial-size then-steps last (array-laws mostBoxes (box-steps .laws)))
+film-steps = via-steps _ _ (λ b. refl) (λ a. refl) (name-steps .laws sized name-size then-steps byte-laws then-steps layout-steps .laws sized layout-size then-steps byte-laws then-steps byte-laws then-steps serial-steps .laws sized serial-size then-steps last (array-laws mostBoxes (box-steps .laws)))
 
 unfoldable pub shelf-steps : Steps shelfFormat
 unfolding shelfFormat
@@ -62,7 +62,7 @@ queue-steps = via-steps _ _ (λ b. refl) (λ a. refl) (byte-laws then-steps last
 
 unfoldable pub core-steps : Steps coreFormat
 unfolding coreFormat
-core-steps = via-steps _ _ (λ b. refl) (λ a. refl) (numbers-steps .laws sized numbers-size then-steps session-steps .laws sized session-size then-steps shelf-steps .laws sized shelf-size then-steps queue-steps .laws sized queue-size then-steps last (opened-steps .laws))
+core-steps = via-steps _ _ (λ b. refl) (λ a. refl) (numbers-steps .laws sized numbers-size then-steps array-laws mostSessions (session-steps .laws) sized sessions-size then-steps shelf-steps .laws sized shelf-size then-steps queue-steps .laws sized queue-size then-steps last (opened-steps .laws))
 
 unfoldable pub state-steps : Steps stateFormat
 unfolding stateFormat

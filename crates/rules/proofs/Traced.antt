@@ -9,7 +9,7 @@ use Rattle.rules.specs.declared.Name.{Name}
 use Rattle.rules.specs.declared.ImageBox.{ImageBox}
 use Rattle.rules.specs.declared.Film.{Film}
 use Rattle.rules.specs.declared.Core.{Core}
-use Rattle.rules.specs.Records.{noFilm}
+use Rattle.rules.specs.Records.{noFilm, theSession}
 use Rattle.rules.specs.declared.Note.the-variants.{NoNote, FilmsQueued, PictureAt}
 use Rattle.rules.proofs.Book.{theBook}
 use Rattle.rules.proofs.Stage.{hex}
@@ -20,7 +20,7 @@ numbers k = k .numbers .serial ∷ k .numbers .picture ∷ k .numbers .ticket �
 
 -- is there a session, how many films and entries; live, context, syntax and room of the open
 abbrev standing : Core → List ℕ
-standing k = k .session .live ∷ k .shelf .count ∷ k .queue .count ∷ k .opened .live ∷ k .opened .context ∷ k .opened .syntax ∷ k .opened .room ∷ []
+standing k = theSession k .live ∷ k .shelf .count ∷ k .queue .count ∷ k .opened .live ∷ k .opened .context ∷ k .opened .syntax ∷ k .opened .room ∷ []
 
 abbrev name : Name → List ℕ
 name n = n .made .0 ∷ n .used ∷ take (n .used) (n .text)
@@ -28,8 +28,9 @@ name n = n .made .0 ∷ n .used ∷ take (n .used) (n .text)
 -- live, name, copies, priority, medium, destination, label
 abbrev session : Core → List ℕ
 session k =
-    (k .session .live ∷ name (k .session .name))
-    ++ (k .session .copies ∷ k .session .priority ∷ k .session .medium ∷ k .session .destination ∷ k .session .used ∷ take (k .session .used) (k .session .label))
+    let s = theSession k in
+    (s .live ∷ name (s .name))
+    ++ (s .copies ∷ s .priority ∷ s .medium ∷ s .destination ∷ s .used ∷ take (s .used) (s .label))
 
 abbrev boxes : List ImageBox → List ℕ
 boxes [] = []

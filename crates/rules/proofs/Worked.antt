@@ -1,9 +1,10 @@
 -- Worked requests: every check from 1 to 11, and the effects, computed. They catch the must-fail edits of the definitions.
 -- Assumes nothing.
 use mathlib.Core.Path.{refl}
-use mathlib.Core.List.{List, [], _∷_, _++_}
+use mathlib.Core.List.{List, [], _∷_, _++_, map}
 use Prim.Native.Nat.{ℕ}
-use lib.ListN.{getD}
+use lib.ListN.{length, getD}
+use Rattle.choice.specs.Rules.{firstBroken}
 use Rattle.headers.specs.declared.Syntax.the-variants.{Implicit}
 use Rattle.strike.specs.Service.{noData, whole, tooLong, Result, fails, does}
 use Rattle.rules.specs.declared.Core.{Core}
@@ -12,16 +13,16 @@ use Rattle.rules.specs.declared.Queue.{Queue}
 use Rattle.rules.specs.Text.{chars}
 use Rattle.rules.specs.Values.{kindStandard, kindRow, kindCol, kindIn, countsIn}
 use Rattle.rules.specs.Positions.{rowOf, columnOf}
-use Rattle.rules.specs.Records.{noBox, noEntry}
-use Rattle.rules.specs.Attributes.{listingOf, layoutFrom, layoutIn}
+use Rattle.rules.specs.Records.{noBox, noEntry, filmsOf, theSession, filmsUnder, withFilms}
+use Rattle.rules.specs.Attributes.{listingOf, sessionIn, layoutFrom, layoutIn}
 use Rattle.rules.specs.declared.Note.{Note}
 use Rattle.rules.specs.declared.Note.the-variants.{NoNote, FilmsQueued, PictureAt}
 use Rattle.rules.specs.Responses.{Reply}
-use Rattle.rules.specs.Effects.{filmAt}
-use Rattle.rules.specs.Checks.{decide}
+use Rattle.rules.specs.Effects.{filmAt, sessionDeleted, entryOf}
+use Rattle.rules.specs.Checks.{sessionPrintRules, decide}
 use Rattle.rules.proofs.Messages.{get, foreign, createBox, createSession, createLive, createFilm, setSession, setNobody, setOther, setFilm, setBox, actTwo, printSession, printFilm, deleteSession, cutShort, noFormat, emptyFormat, film23, landscape, emptyInSet, low, moved, seventh, picture, shortPicture, oddPicture, erased, twoItems}
 use Rattle.rules.proofs.Book.{theBook}
-use Rattle.rules.proofs.Stage.{sessionLive, filmLive, eightFilms, fewSerials, noPictures, queueFull, onePicture, collided, status, after, Example, gives, AllHold}
+use Rattle.rules.proofs.Stage.{nothingLive, sessionLive, theFilm, filmLive, eightFilms, fewSerials, noPictures, queueFull, onePicture, collided, status, after, Example, gives, AllHold}
 
 abbrev filmAfter : Core → List ℕ → List ℕ → Film
 filmAfter k c d = filmAt (after k (decide k c (whole d))) 0
@@ -56,6 +57,14 @@ entryNumbers q =
 abbrev entryAfter : Core → List ℕ → List ℕ
 entryAfter k c = entryNumbers (after k (decide k c noData) .queue)
 
+-- the film of the session at another place
+abbrev placed : ℕ → Film
+placed i = record { name = theFilm .name; session = i; layout = theFilm .layout; orientation = theFilm .orientation; magnification = theFilm .magnification; first = theFilm .first; boxes = theFilm .boxes }
+
+-- films of the sessions at places 0 and 1
+abbrev twoPlaces : Core
+twoPlaces = withFilms (placed 1 ∷ theFilm ∷ placed 1 ∷ []) filmLive
+
 abbrev worked : List Example
 worked =
     -- check 1
@@ -81,7 +90,7 @@ worked =
     -- check 11
     ∷ gives (status (decide filmLive printSession noData) ∷ status (decide onePicture printFilm noData) ∷ []) (0xB602 ∷ 0x0000 ∷ [])
     -- a set stores nothing before its last value is tested
-    ∷ gives (status (decide sessionLive setSession (whole low)) ∷ after sessionLive (decide sessionLive setSession (whole low)) .session .priority ∷ []) (0x0106 ∷ 1 ∷ [])
+    ∷ gives (status (decide sessionLive setSession (whole low)) ∷ theSession (after sessionLive (decide sessionLive setSession (whole low))) .priority ∷ []) (0x0106 ∷ 1 ∷ [])
     -- columns first
     ∷ gives (layoutIn (listingOf film23 Implicit) .lines ∷ layoutIn (listingOf film23 Implicit) .counts) (3 ∷ 2 ∷ 2 ∷ 2 ∷ 0 ∷ 0 ∷ 0 ∷ [])
     -- R-1: uneven rows and columns
@@ -102,9 +111,13 @@ worked =
     -- a print: the queue's entry
     ∷ gives (entryAfter onePicture printFilm) (1 ∷ 0 ∷ 1 ∷ 100 ∷ 0 ∷ 1 ∷ [])
     -- a session's deletion takes its films
-    ∷ gives (after filmLive (decide filmLive deleteSession noData) .shelf .count ∷ after filmLive (decide filmLive deleteSession noData) .session .live ∷ []) (0 ∷ 0 ∷ [])
+    ∷ gives (after filmLive (decide filmLive deleteSession noData) .shelf .count ∷ theSession (after filmLive (decide filmLive deleteSession noData)) .live ∷ []) (0 ∷ 0 ∷ [])
+    -- a film is of the session that its reference names; a print and a deletion of a session reach its own films
+    ∷ gives (filmAt (after sessionLive (decide sessionLive createFilm (whole film23))) 0 .session ∷ sessionIn sessionLive (listingOf film23 Implicit) ∷ sessionIn nothingLive (listingOf film23 Implicit) ∷ []) (0 ∷ 0 ∷ 1 ∷ [])
+    ∷ gives (length (filmsUnder 0 (twoPlaces .shelf)) ∷ length (filmsUnder 1 (twoPlaces .shelf)) ∷ map (λ f. f .session) (filmsOf (sessionDeleted twoPlaces 0 .shelf) ++ filmsOf (sessionDeleted twoPlaces 1 .shelf))) (1 ∷ 2 ∷ 1 ∷ 1 ∷ 0 ∷ [])
+    ∷ gives (firstBroken (sessionPrintRules twoPlaces 2) ∷ firstBroken (sessionPrintRules twoPlaces 0) ∷ entryOf twoPlaces 7 theFilm .copies ∷ entryOf twoPlaces 7 (placed 1) .copies ∷ []) (0xC600 ∷ 0 ∷ 1 ∷ 0 ∷ [])
     ∷ []
 
 pub worked-hold : AllHold worked
 unfolding theBook
-worked-hold = (refl, (refl, (refl, (refl, (refl, (refl, (refl, (refl, (refl, (refl, (refl, (refl, (refl, (refl, (refl, (refl, (refl, (refl, (refl, (refl, (refl, (refl, (refl, (refl, tt))))))))))))))))))))))))
+worked-hold = (refl, (refl, (refl, (refl, (refl, (refl, (refl, (refl, (refl, (refl, (refl, (refl, (refl, (refl, (refl, (refl, (refl, (refl, (refl, (refl, (refl, (refl, (refl, (refl, (refl, (refl, (refl, tt)))))))))))))))))))))))))))

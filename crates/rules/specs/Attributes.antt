@@ -26,9 +26,9 @@ use Rattle.rules.specs.declared.Core.{Core}
 use Rattle.rules.specs.declared.Image.{Image}
 use Rattle.rules.specs.declared.Image.the-variants.{Keeps, Erases, TooMany, Fills}
 use Rattle.rules.specs.Text.{sessionClass}
-use Rattle.rules.specs.Lists.{any, filledTo}
+use Rattle.rules.specs.Lists.{any, placeOf, filledTo}
 use Rattle.rules.specs.Values.{trimmed, noBytes, blank, countIn, kindIn, codeIn, priorities, media, destinations, orientations, magnifications, polarities, photometrics, labelAllowed, countsIn, isUS, usIn}
-use Rattle.rules.specs.Records.{picture, uidOf, isLive}
+use Rattle.rules.specs.Records.{picture, sessionsOf, sessionNamed}
 use Rattle.rules.specs.Commands.{noPart, placed, bytesOf}
 
 -- A list of attributes: the bytes that it lies in, and its scope there.
@@ -163,7 +163,7 @@ abbrev pub referenceStandings : Core → Listing → Items → List Standing
 referenceStandings k l Empty = empty ∷ []
 referenceStandings k l (One inside) =
     uid (same sessionClass) (onlyItem l inside) 0x0008_1150
-    ∷ uid (λ u. both (isLive (k .session)) (same u (uidOf (k .numbers) (k .session .name)))) (onlyItem l inside) 0x0008_1155
+    ∷ uid (λ u. any (sessionNamed (k .numbers) u) (sessionsOf k)) (onlyItem l inside) 0x0008_1155
     ∷ []
 referenceStandings k l (Several n) = wrong ∷ []
 
@@ -171,6 +171,16 @@ abbrev pub reference : Core → Listing → Found → List Standing
 reference k l Missing = missing ∷ []
 reference k l (Value p) = wrong ∷ []
 reference k l (Sequence inside) = referenceStandings k l (itemsFound l (Sequence inside))
+
+-- the UID that it names
+abbrev pub referenced : Listing → Items → List ℕ
+referenced l Empty = []
+referenced l (One inside) = unpadded (valueOf (onlyItem l inside) 0x0008_1155)
+referenced l (Several n) = []
+
+-- the place of the session that has this UID
+unfoldable pub sessionIn : Core → Listing → ℕ
+sessionIn k l = placeOf (sessionNamed (k .numbers) (referenced l (itemsIn l 0x2010_0500))) (sessionsOf k)
 
 unfoldable pub optionalFilm : Listing → List Standing
 optionalFilm l = optional (code orientations l 0x2010_0040) ∷ optional (code magnifications l 0x2010_0060) ∷ []
@@ -192,6 +202,7 @@ filmSetStandings l = mustBeAbsent (look l 0x2010_0010) ∷ mustBeAbsent (look l 
 unfoldable pub filmWith : Listing → Film → Film
 filmWith l f = record {
   name = f .name;
+  session = f .session;
   layout = f .layout;
   orientation = orKept blank l 0x2010_0040 (codeIn orientations) (f .orientation);
   magnification = orKept blank l 0x2010_0060 (codeIn magnifications) (f .magnification);

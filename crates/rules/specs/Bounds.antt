@@ -18,6 +18,10 @@ dataRoom = 8192
 abbrev pub reportRoom : ℕ
 reportRoom = 20
 
+-- places for sessions
+abbrev pub mostSessions : ℕ
+mostSessions = 1
+
 abbrev pub mostFilms : ℕ
 mostFilms = 8
 

@@ -20,7 +20,7 @@ use Rattle.rules.specs.declared.Command.{Command}
 use Rattle.rules.specs.declared.Command.the-variants.{Unreadable, Unknown, Known}
 use Rattle.rules.specs.Bounds.{leastRoom, mostRoom, commandRoom, dataRoom, reportRoom, entryRoom, rootLimit, noneLeft}
 use Rattle.rules.specs.Lists.{filledTo}
-use Rattle.rules.specs.Records.{uidOf, noEntry, entriesOf, shelved, queued, noSession, notOpen, isOpen, withSession, withFilms, withQueue}
+use Rattle.rules.specs.Records.{uidOf, noEntry, entriesOf, shelved, queued, noSessions, notOpen, isOpen, withSessions, withFilms, withQueue}
 use Rattle.rules.specs.Commands.{understood, hasData}
 use Rattle.rules.specs.Responses.{Reply}
 use Rattle.rules.specs.Checks.{decide}
@@ -121,21 +121,21 @@ check k c = firstOr refuses (rulesOf k c) passes
 unfoldable pub started : Starting → Core
 started h = record {
   numbers = record { used = length (h .root); root = filledTo rootLimit 0 (h .root); serial = h .serial; picture = h .picture; ticket = 0 };
-  session = noSession;
+  sessions = noSessions;
   shelf = shelved [];
   queue = queued [];
   opened = notOpen;
 }
 
 abbrev pub withOpened : Opened → Core → Core
-withOpened o k = record { numbers = k .numbers; session = k .session; shelf = k .shelf; queue = k .queue; opened = o }
+withOpened o k = record { numbers = k .numbers; sessions = k .sessions; shelf = k .shelf; queue = k .queue; opened = o }
 
 unfoldable pub opened : Core → Opening → Core
 opened k h = withOpened (record { live = 1; context = h .context; syntax = h .syntax; room = h .message }) k
 
 -- "Close drops session, films, boxes and input; queue and next numbers stay."
 unfoldable pub closed : Core → Core
-closed k = withOpened notOpen (withSession noSession (withFilms [] k))
+closed k = withOpened notOpen (withSessions noSessions (withFilms [] k))
 
 -- "Take writes the oldest entry in 212 bytes: 36 pictures of 4, ticket and copies of 2, little endian, the UID zero-filled to 64."
 unfoldable pub pictureBytes : List Picture → List ℕ

@@ -31,10 +31,10 @@ use Rattle.rules.specs.declared.Command.{Command}
 use Rattle.rules.specs.declared.Command.the-variants.{Unreadable, Unknown, Known}
 use Rattle.rules.specs.Bounds.{mostFilms}
 use Rattle.rules.specs.Text.{verificationClass, sessionClass, filmClass, boxClass}
-use Rattle.rules.specs.Lists.{any, apart}
+use Rattle.rules.specs.Lists.{every, any, apart}
 use Rattle.rules.specs.declared.Instance.{Instance}
 use Rattle.rules.specs.declared.Instance.the-variants.{Nobody, TheSession, TheFilm, TheBox}
-use Rattle.rules.specs.Records.{boxCount, boxesOf, filmsOf, rootOf, uidOf, isLive, syntaxIn, named, noName, sentName, instanceOf}
+use Rattle.rules.specs.Records.{boxCount, boxesOf, filmsOf, rootOf, uidOf, isLive, syntaxIn, named, noName, sentName, instanceOf, filmsUnder, sessionsOf}
 use Rattle.rules.specs.Commands.{size, uidAt, isRead, understood}
 use Rattle.rules.specs.declared.Image.{Image}
 use Rattle.rules.specs.Attributes.{Listing, listingOf, attributeRules, sessionStandings, filmCreateStandings, filmSetStandings, boxStandings, imageIn, isFill, pixels}
@@ -158,7 +158,7 @@ targetRules k c class instance =
 abbrev pub newSessionRules : Core → List ℕ → Listing → List Rule
 newSessionRules k sent l =
     attributeRules (sessionStandings l)
-    ++ ((isLive (k .session) ⇒ 0x0213) ∷ (tooFewSerials (k .numbers) (ownSerials sent) ⇒ 0x0213) ∷ [])
+    ++ ((every isLive (sessionsOf k) ⇒ 0x0213) ∷ (tooFewSerials (k .numbers) (ownSerials sent) ⇒ 0x0213) ∷ [])
 
 abbrev pub newFilmRules : Core → List ℕ → Listing → List Rule
 newFilmRules k sent l =
@@ -179,11 +179,11 @@ samePosition a b = eqb (a .position) (b .position)
 abbrev pub collides : Film → Bool
 collides f = not (apart samePosition (filledBoxes (boxesOf f)))
 
-abbrev pub sessionPrintRules : Core → List Rule
-sessionPrintRules k =
-    (eqb (length (filmsOf (k .shelf))) 0 ⇒ 0xC600)
-    ∷ (any collides (filmsOf (k .shelf)) ⇒ 0xC604)
-    ∷ (ltb (queueRoom k) (length (filmsOf (k .shelf))) ⇒ 0xC601)
+abbrev pub sessionPrintRules : Core → ℕ → List Rule
+sessionPrintRules k i =
+    (eqb (length (filmsUnder i (k .shelf))) 0 ⇒ 0xC600)
+    ∷ (any collides (filmsUnder i (k .shelf)) ⇒ 0xC604)
+    ∷ (ltb (queueRoom k) (length (filmsUnder i (k .shelf))) ⇒ 0xC601)
     ∷ []
 
 abbrev pub filmPrintRules : Core → ℕ → List Rule
@@ -251,7 +251,7 @@ unfoldable pub setPlan : Core → Instance → Name → Listing → Plan
 setPlan k Nobody name l = nothing k
 setPlan k TheSession name l = record {
   rules = attributeRules (sessionStandings l);
-  verdict = quietly (sessionSet k l) name;
+  verdict = quietly (sessionSet k 0 l) name;
 }
 setPlan k (TheFilm i) name l = record {
   rules = attributeRules (filmSetStandings l);
@@ -272,8 +272,8 @@ setPlan k (TheBox i j) name l = record {
 unfoldable pub actionPlan : Core → Instance → Name → Plan
 actionPlan k Nobody name = nothing k
 actionPlan k TheSession name = record {
-  rules = sessionPrintRules k;
-  verdict = printedWith k 0xB602 (filmsOf (k .shelf)) name;
+  rules = sessionPrintRules k 0;
+  verdict = printedWith k 0xB602 (filmsUnder 0 (k .shelf)) name;
 }
 actionPlan k (TheFilm i) name = record {
   rules = filmPrintRules k i;
@@ -283,7 +283,7 @@ actionPlan k (TheBox i j) name = nothing k
 
 unfoldable pub deletePlan : Core → Instance → Name → Plan
 deletePlan k Nobody name = nothing k
-deletePlan k TheSession name = record { rules = []; verdict = quietly (sessionDeleted k) name }
+deletePlan k TheSession name = record { rules = []; verdict = quietly (sessionDeleted k 0) name }
 deletePlan k (TheFilm i) name = record { rules = []; verdict = quietly (filmDeleted k i) name }
 deletePlan k (TheBox i j) name = nothing k
 

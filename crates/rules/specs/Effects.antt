@@ -14,10 +14,10 @@ use Rattle.rules.specs.declared.Entry.{Entry}
 use Rattle.rules.specs.declared.Numbers.{Numbers}
 use Rattle.rules.specs.declared.Core.{Core}
 use Rattle.rules.specs.Bounds.{mostBoxes, mostEntries, noneLeft, tickets}
-use Rattle.rules.specs.Lists.{any, from, filledTo, without}
-use Rattle.rules.specs.Records.{serial, picture, madeName, sentName, boxCount, boxesOf, filled, noBox, noFilm, filmsOf, entriesOf, noSession, newSession, withNumbers, withSession, withFilms, withQueue, serialsUsed, pictureUsed}
+use Rattle.rules.specs.Lists.{any, from, filledTo, those, without}
+use Rattle.rules.specs.Records.{serial, picture, madeName, sentName, boxCount, boxesOf, filled, noBox, noFilm, filmsOf, entriesOf, noSession, newSession, sessionAt, under, withNumbers, withSession, withFilms, withQueue, serialsUsed, pictureUsed}
 use Rattle.rules.specs.declared.Image.{Image}
-use Rattle.rules.specs.Attributes.{Listing, imageIn, isFill, sessionWith, filmWith, layoutIn, boxWith}
+use Rattle.rules.specs.Attributes.{Listing, imageIn, isFill, sessionWith, filmWith, sessionIn, layoutIn, boxWith}
 
 -- Numbers.
 
@@ -54,7 +54,7 @@ renamed name s = record {
 
 unfoldable pub sessionCreated : Core → List ℕ → Listing → Core
 sessionCreated k sent l =
-    withSession (renamed (nameFrom (k .numbers) sent) (sessionWith l newSession))
+    withSession 0 (renamed (nameFrom (k .numbers) sent) (sessionWith l newSession))
     (withNumbers (serialsUsed (ownSerials sent) (k .numbers)) k)
 
 -- "at creation its place in row order"
@@ -65,6 +65,7 @@ newBox position = record { position = position; polarity = 0; picture = picture 
 unfoldable pub newFilm : Core → List ℕ → Listing → Film
 newFilm k sent l = filmWith l (record {
   name = nameFrom (k .numbers) sent;
+  session = sessionIn k l;
   layout = layoutIn l;
   orientation = 0;
   magnification = 2;
@@ -82,8 +83,8 @@ filmCreated k sent l =
 
 -- N-SET.
 
-unfoldable pub sessionSet : Core → Listing → Core
-sessionSet k l = withSession (sessionWith l (k .session)) k
+unfoldable pub sessionSet : Core → ℕ → Listing → Core
+sessionSet k i l = withSession i (sessionWith l (sessionAt k i)) k
 
 abbrev pub filmAt : Core → ℕ → Film
 filmAt k i = getD (filmsOf (k .shelf)) i noFilm
@@ -97,6 +98,7 @@ filmSet k i l = withFilm i (filmWith l (filmAt k i)) k
 abbrev pub withBoxes : List ImageBox → Film → Film
 withBoxes boxes f = record {
   name = f .name;
+  session = f .session;
   layout = f .layout;
   orientation = f .orientation;
   magnification = f .magnification;
@@ -117,8 +119,8 @@ boxSet k i j l =
 
 -- N-DELETE: "Deletion takes all below it."
 
-unfoldable pub sessionDeleted : Core → Core
-sessionDeleted k = withSession noSession (withFilms [] k)
+unfoldable pub sessionDeleted : Core → ℕ → Core
+sessionDeleted k i = withSession i noSession (withFilms (those (λ f. not (under i f)) (filmsOf (k .shelf))) k)
 
 unfoldable pub filmDeleted : Core → ℕ → Core
 filmDeleted k i = withFilms (without i (filmsOf (k .shelf))) k
@@ -134,7 +136,7 @@ unfoldable pub entryOf : Core → ℕ → Film → Entry
 entryOf k ticket f = record {
   pictures = map (pictureOn (boxesOf f)) (from 1 mostBoxes);
   ticket = ticket;
-  copies = k .session .copies;
+  copies = sessionAt k (f .session) .copies;
   film = f .name;
 }
 

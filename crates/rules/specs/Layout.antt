@@ -18,7 +18,7 @@ use Rattle.rules.specs.declared.Opened.{Opened}
 use Rattle.rules.specs.declared.Core.{Core}
 use Rattle.rules.specs.declared.Input.{Input}
 use Rattle.rules.specs.declared.State.{State}
-use Rattle.rules.specs.Bounds.{mostFilms, mostBoxes, mostEntries, rootLimit}
+use Rattle.rules.specs.Bounds.{mostFilms, mostBoxes, mostEntries, rootLimit, mostSessions}
 
 abbrev pub serialSize : ℕ
 serialSize = 4
@@ -73,14 +73,14 @@ layoutFormat =
     (byte then byte then array 6 byte)
 
 abbrev pub filmSize : ℕ
-filmSize = nameSize + layoutSize + 1 + 1 + serialSize + mostBoxes * boxSize
+filmSize = nameSize + 1 + layoutSize + 1 + 1 + serialSize + mostBoxes * boxSize
 
 unfoldable pub filmFormat : Format Film
 filmFormat =
     via
-    (λ t. record { name = t .0; layout = t .1 .0; orientation = t .1 .1 .0; magnification = t .1 .1 .1 .0; first = t .1 .1 .1 .1 .0; boxes = t .1 .1 .1 .1 .1 })
-    (λ x. (x .name, (x .layout, (x .orientation, (x .magnification, (x .first, x .boxes))))))
-    (nameFormat then layoutFormat then byte then byte then serialFormat then array mostBoxes boxFormat)
+    (λ t. record { name = t .0; session = t .1 .0; layout = t .1 .1 .0; orientation = t .1 .1 .1 .0; magnification = t .1 .1 .1 .1 .0; first = t .1 .1 .1 .1 .1 .0; boxes = t .1 .1 .1 .1 .1 .1 })
+    (λ x. (x .name, (x .session, (x .layout, (x .orientation, (x .magnification, (x .first, x .boxes)))))))
+    (nameFormat then byte then layoutFormat then byte then byte then serialFormat then array mostBoxes boxFormat)
 
 abbrev pub shelfSize : ℕ
 shelfSize = 1 + mostFilms * filmSize
@@ -134,14 +134,14 @@ openedFormat =
     (byte then byte then byte then number 4)
 
 abbrev pub coreSize : ℕ
-coreSize = numbersSize + sessionSize + shelfSize + queueSize + openedSize
+coreSize = numbersSize + mostSessions * sessionSize + shelfSize + queueSize + openedSize
 
 unfoldable pub coreFormat : Format Core
 coreFormat =
     via
-    (λ t. record { numbers = t .0; session = t .1 .0; shelf = t .1 .1 .0; queue = t .1 .1 .1 .0; opened = t .1 .1 .1 .1 })
-    (λ x. (x .numbers, (x .session, (x .shelf, (x .queue, x .opened)))))
-    (numbersFormat then sessionFormat then shelfFormat then queueFormat then openedFormat)
+    (λ t. record { numbers = t .0; sessions = t .1 .0; shelf = t .1 .1 .0; queue = t .1 .1 .1 .0; opened = t .1 .1 .1 .1 })
+    (λ x. (x .numbers, (x .sessions, (x .shelf, (x .queue, x .opened)))))
+    (numbersFormat then array mostSessions sessionFormat then shelfFormat then queueFormat then openedFormat)
 
 abbrev pub inputSize : ℕ
 inputSize = 1 + 2 + 4 + commandLimit

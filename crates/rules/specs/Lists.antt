@@ -32,6 +32,16 @@ unfoldable pub from : ℕ → ℕ → List ℕ
 from n zero = []
 from n (suc k) = n ∷ from (n + 1) k
 
+-- what each of the first places has
+abbrev pub upTo : {A : Type 0} → ℕ → (ℕ → A) → List A
+upTo zero f = []
+upTo (suc n) f = f 0 ∷ upTo n (λ i. f (suc i))
+
+-- those that pass the test
+unfoldable pub those : {A : Type 0} → (A → Bool) → List A → List A
+those test [] = []
+those test (x ∷ xs) = pick (test x) (x ∷ those test xs) (those test xs)
+
 -- a list, filled to so many places
 abbrev pub filledTo : {A : Type 0} → ℕ → A → List A → List A
 filledTo n blank xs = xs ++ replicate (n - length xs) blank

@@ -26,8 +26,8 @@ use Rattle.rules.specs.declared.Core.{Core}
 use Rattle.rules.specs.declared.Input.{Input}
 use Rattle.rules.specs.declared.Instance.{Instance}
 use Rattle.rules.specs.declared.Instance.the-variants.{Nobody, TheSession, TheFilm, TheBox}
-use Rattle.rules.specs.Bounds.{mostFilms, mostBoxes, mostEntries}
-use Rattle.rules.specs.Lists.{any, placeOf, sum, from, filledTo}
+use Rattle.rules.specs.Bounds.{mostSessions, mostFilms, mostBoxes, mostEntries}
+use Rattle.rules.specs.Lists.{any, placeOf, sum, from, upTo, those, filledTo}
 
 -- Names.
 
@@ -73,6 +73,7 @@ noLayout = record { kind = 0; lines = 0; counts = replicate 6 0 }
 abbrev pub noFilm : Film
 noFilm = record {
   name = noName;
+  session = 0;
   layout = noLayout;
   orientation = 0;
   magnification = 0;
@@ -97,7 +98,7 @@ entriesOf queue = take (queue .count) (queue .entries)
 unfoldable pub queued : List Entry → Queue
 queued entries = record { count = length entries; entries = filledTo mostEntries noEntry entries }
 
--- The session.
+-- Sessions.
 
 abbrev pub noSession : Session
 noSession = record {
@@ -110,6 +111,9 @@ noSession = record {
   used = 0;
   label = replicate 64 0;
 }
+
+abbrev pub noSessions : List Session
+noSessions = replicate mostSessions noSession
 
 -- "Copies .. default 1; Priority .. MED; Medium .. PAPER; Destination .. MAGAZINE; Label .. empty"
 abbrev pub newSession : Session
@@ -126,6 +130,26 @@ newSession = record {
 
 abbrev pub isLive : Session → Bool
 isLive s = not (eqb (s .live) 0)
+
+-- by place; where there is none, a blank one
+abbrev pub sessionAt : Core → ℕ → Session
+sessionAt k i = getD (k .sessions) i noSession
+
+-- those of all places, blank ones too
+abbrev pub sessionsOf : Core → List Session
+sessionsOf k = upTo mostSessions (sessionAt k)
+
+-- the only place, as long as there is one
+abbrev pub theSession : Core → Session
+theSession k = sessionAt k 0
+
+-- whether a film is of the session at a place
+abbrev pub under : ℕ → Film → Bool
+under i f = eqb (f .session) i
+
+-- the films of the session at a place, in creation order
+unfoldable pub filmsUnder : ℕ → Shelf → List Film
+filmsUnder i shelf = those (under i) (filmsOf shelf)
 
 -- What open fixed.
 
@@ -146,16 +170,20 @@ commandHeld i = take (i .used) (i .command)
 -- The core with one part anew.
 
 abbrev pub withNumbers : Numbers → Core → Core
-withNumbers n k = record { numbers = n; session = k .session; shelf = k .shelf; queue = k .queue; opened = k .opened }
+withNumbers n k = record { numbers = n; sessions = k .sessions; shelf = k .shelf; queue = k .queue; opened = k .opened }
 
-abbrev pub withSession : Session → Core → Core
-withSession s k = record { numbers = k .numbers; session = s; shelf = k .shelf; queue = k .queue; opened = k .opened }
+abbrev pub withSessions : List Session → Core → Core
+withSessions sessions k = record { numbers = k .numbers; sessions = sessions; shelf = k .shelf; queue = k .queue; opened = k .opened }
+
+-- with this session at a place
+abbrev pub withSession : ℕ → Session → Core → Core
+withSession i s k = withSessions (upTo mostSessions (λ j. pick (eqb j i) s (sessionAt k j))) k
 
 abbrev pub withFilms : List Film → Core → Core
-withFilms films k = record { numbers = k .numbers; session = k .session; shelf = shelved films; queue = k .queue; opened = k .opened }
+withFilms films k = record { numbers = k .numbers; sessions = k .sessions; shelf = shelved films; queue = k .queue; opened = k .opened }
 
 abbrev pub withQueue : List Entry → Core → Core
-withQueue entries k = record { numbers = k .numbers; session = k .session; shelf = k .shelf; queue = queued entries; opened = k .opened }
+withQueue entries k = record { numbers = k .numbers; sessions = k .sessions; shelf = k .shelf; queue = queued entries; opened = k .opened }
 
 -- Next numbers.
 
@@ -179,6 +207,9 @@ uidsFrom n first count = map (made (rootOf n)) (from first count)
 unfoldable pub boxUids : Numbers → Film → List (List ℕ)
 boxUids n f = uidsFrom n (f .first .0) (boxCount (f .layout))
 
+abbrev pub sessionNamed : Numbers → List ℕ → Session → Bool
+sessionNamed n uid s = both (isLive s) (same uid (uidOf n (s .name)))
+
 abbrev pub filmNamed : Numbers → List ℕ → Film → Bool
 filmNamed n uid f = same uid (uidOf n (f .name))
 
@@ -190,7 +221,7 @@ boxOf n uid films i = TheBox i (placeOf (same uid) (boxUids n (getD films i noFi
 
 unfoldable pub named : Core → List ℕ → Instance
 named k uid =
-    pick (both (isLive (k .session)) (same uid (uidOf (k .numbers) (k .session .name)))) TheSession
+    pick (sessionNamed (k .numbers) uid (theSession k)) TheSession
     (pick (any (filmNamed (k .numbers) uid) (filmsOf (k .shelf))) (TheFilm (placeOf (filmNamed (k .numbers) uid) (filmsOf (k .shelf))))
     (pick (any (boxNamed (k .numbers) uid) (filmsOf (k .shelf))) (boxOf (k .numbers) uid (filmsOf (k .shelf)) (placeOf (boxNamed (k .numbers) uid) (filmsOf (k .shelf))))
     Nobody))

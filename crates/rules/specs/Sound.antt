@@ -1,9 +1,9 @@
 -- The records: their rules, as one test. Unused places hold zeros, so that equal records have equal bytes.
 use Prim.Native.Nat.{ℕ, _+_, _%_}
 use mathlib.Core.Bool.{Bool, true, false}
-use mathlib.Core.List.{List, [], _∷_, map}
+use mathlib.Core.List.{List, [], _∷_, _++_, map}
 use lib.Dec.{eqb, leb, ltb}
-use lib.ListN.{length, take, drop}
+use lib.ListN.{length, getD, take, drop}
 use Rattle.choice.specs.Pick.{pick, both, not}
 use Rattle.octets.specs.Octets.{same}
 use Rattle.uids.specs.Uids.{isUid, beginsWith}
@@ -27,7 +27,7 @@ use Rattle.rules.specs.declared.Command.the-variants.{Unreadable, Unknow
 use Rattle.rules.specs.Bounds.{leastRoom, mostRoom, mostFilms, mostEntries, rootLimit, noneLeft}
 use Rattle.rules.specs.Lists.{every, apart}
 use Rattle.rules.specs.Values.{trimmed, labelAllowed, kindCol}
-use Rattle.rules.specs.Records.{rootOf, boxCount, boxesOf, filmsOf, entriesOf, isLive, commandHeld}
+use Rattle.rules.specs.Records.{rootOf, boxCount, boxesOf, filmsOf, entriesOf, isLive, commandHeld, noSession, sessionsOf}
 use Rattle.rules.specs.Commands.{understood}
 
 abbrev pub all : List Bool → Bool
@@ -93,6 +93,10 @@ sessionBlank s =
     ∷ zeros (s .label)
     ∷ [])
 
+-- a place is live or blank
+abbrev pub sessionPlaceSound : Numbers → Session → Bool
+sessionPlaceSound n s = both (flag (s .live)) (pick (isLive s) (sessionSound n s) (sessionBlank s))
+
 -- one of three formats; 1 to 6 lines of 1 to 6 boxes each
 unfoldable pub layoutSound : Layout → Bool
 layoutSound l =
@@ -124,15 +128,19 @@ filmSound n f =
 abbrev pub filmBlank : Film → Bool
 filmBlank f =
     all (nameBlank (f .name)
-    ∷ zeros (f .layout .kind ∷ f .layout .lines ∷ f .orientation ∷ f .magnification ∷ f .first .0 ∷ [])
+    ∷ zeros (f .session ∷ f .layout .kind ∷ f .layout .lines ∷ f .orientation ∷ f .magnification ∷ f .first .0 ∷ [])
     ∷ zeros (f .layout .counts)
     ∷ every boxBlank (f .boxes)
     ∷ [])
 
--- "films only under it"
-unfoldable pub shelfSound : Numbers → Session → Shelf → Bool
-shelfSound n s shelf =
-    all (leb (shelf .count) (pick (isLive s) mostFilms 0)
+-- "films only under it": each film is of a session that is live
+abbrev pub hasSession : List Session → Film → Bool
+hasSession sessions f = isLive (getD sessions (f .session) noSession)
+
+unfoldable pub shelfSound : Numbers → List Session → Shelf → Bool
+shelfSound n sessions shelf =
+    all (leb (shelf .count) mostFilms
+    ∷ every (hasSession sessions) (filmsOf shelf)
     ∷ every (filmSound n) (filmsOf shelf)
     ∷ every filmBlank (drop (shelf .count) (shelf .films))
     ∷ [])
@@ -178,10 +186,10 @@ sentText name = take (name .used) (name .text)
 abbrev pub sameText : List ℕ → List ℕ → Bool
 sameText a b = both (not (eqb (length a) 0)) (same a b)
 
-unfoldable pub uidsApart : Session → List Film → Bool
-uidsApart s films =
-    both (apart overlap (ownSerial (s .name) ∷ serialsOf films))
-    (apart sameText (sentText (s .name) ∷ map (λ (f : Film). sentText (f .name)) films))
+unfoldable pub uidsApart : List Session → List Film → Bool
+uidsApart sessions films =
+    both (apart overlap (map (λ (s : Session). ownSerial (s .name)) sessions ++ serialsOf films))
+    (apart sameText (map (λ (s : Session). sentText (s .name)) sessions ++ map (λ (f : Film). sentText (f .name)) films))
 
 -- What open fixed, and the input.
 
@@ -195,11 +203,10 @@ openedSound o = both (flag (o .live)) (pick (eqb (o .live) 0) (zeros (o .context
 unfoldable pub coreSound : Core → Bool
 coreSound k =
     all (numbersSound (k .numbers)
-    ∷ flag (k .session .live)
-    ∷ pick (isLive (k .session)) (sessionSound (k .numbers) (k .session)) (sessionBlank (k .session))
-    ∷ shelfSound (k .numbers) (k .session) (k .shelf)
+    ∷ every (sessionPlaceSound (k .numbers)) (sessionsOf k)
+    ∷ shelfSound (k .numbers) (sessionsOf k) (k .shelf)
     ∷ queueSound (k .numbers) (k .queue)
-    ∷ uidsApart (k .session) (filmsOf (k .shelf))
+    ∷ uidsApart (sessionsOf k) (filmsOf (k .shelf))
     ∷ openedSound (k .opened)
     ∷ [])
 

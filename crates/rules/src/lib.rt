@@ -2,8 +2,10 @@
 use headers::Inside;
 use headers::Part;
 
-// How many there are at most: boxes of a film, films, entries; characters of a UID, a label and a root; lines of a layout;
+// How many there are at most: sessions, boxes of a film, films, entries; characters of a UID, a label and a root; lines of a layout;
 // bytes of a command.
+pub const SESSIONS: usize = 1;
+
 pub const BOXES: usize = 36;
 
 pub const FILMS: usize = 8;
@@ -55,9 +57,10 @@ pub struct Layout {
     pub counts: [u8; LINES],
 }
 
-// A film; its boxes have the serials from `first` on.
+// A film, and the place of the session that it is of; its boxes have the serials from `first` on.
 pub struct Film {
     pub name: Name,
+    pub session: u8,
     pub layout: Layout,
     pub orientation: u8,
     pub magnification: u8,
@@ -102,10 +105,10 @@ pub struct Opened {
     pub room: u32,
 }
 
-// All that the records hold but the message half collected.
+// All that the records hold but the message half collected. A place for a session is live or blank.
 pub struct Core {
     pub numbers: Numbers,
-    pub session: Session,
+    pub sessions: [Session; SESSIONS],
     pub shelf: Shelf,
     pub queue: Queue,
     pub opened: Opened,

@@ -5,11 +5,9 @@ ghost use mathlib.Core.Path.{_≡_};
 ghost use mathlib.Core.List.{[], _∷_};
 ghost use lib.Dec.{leb};
 ghost use lib.ListN.{take, drop};
-ghost use Rattle.choice.specs.Pick.{pick};
 ghost use Rattle.octets.specs.Octets.{same};
-ghost use Rattle.rules.specs.Records.{isLive};
 ghost use Rattle.rules.specs.Values.{trimmed, labelAllowed};
-ghost use Rattle.rules.specs.Sound.{all, between, zeros, sessionBlank, sessionSound};
+ghost use Rattle.rules.specs.Sound.{all, between, zeros, sessionBlank, sessionSound, sessionPlaceSound};
 
 pub fn copies_allowed(copies: u8) -> bool
     ensures { λ r. ⌜ r ≡ between 1 99 copies ⌝ }
@@ -118,10 +116,13 @@ pub fn session_sound(n: Numbers, s: Session) -> bool
     label_sound(label, s.used as usize)
 }
 
-// The session's place: a session, or none.
+// A place for a session, live or blank.
 pub fn session_place_sound(n: Numbers, s: Session) -> bool
-    ensures { λ r. ⌜ r ≡ pick (isLive s) (sessionSound n s) (sessionBlank s) ⌝ }
+    ensures { λ r. ⌜ r ≡ sessionPlaceSound n s ⌝ }
 {
+    if 1 < s.live {
+        return false;
+    }
     if s.live == 0 {
         return session_blank(s);
     }

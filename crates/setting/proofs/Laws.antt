@@ -25,7 +25,7 @@ use Rattle.rules.specs.declared.Request.{Request}
 use Rattle.rules.specs.declared.Target.{Target}
 use Rattle.rules.specs.declared.Operation.the-variants.{Set}
 use Rattle.rules.specs.Bounds.{noneLeft}
-use Rattle.rules.specs.Records.{sentName, noBox, noFilm, boxCount, filmsOf, withNumbers, pictureUsed, syntaxIn, named}
+use Rattle.rules.specs.Records.{sentName, noBox, noFilm, boxCount, filmsOf, withNumbers, pictureUsed, syntaxIn, named, sessionsOf}
 use Rattle.rules.specs.Commands.{uidAt}
 use Rattle.rules.specs.declared.Image.{Image}
 use Rattle.rules.specs.declared.Image.the-variants.{Keeps, Erases, TooMany, Fills}
@@ -134,7 +134,7 @@ pub ruleset box-checks = (attribute-breaks, nothing-fills, picture-lacks, pictur
 -- a film of a sound core has no more boxes than there are places
 pub boxes-few : (k : Core) (i : ℕ) → coreSound k ≡ true → i < length (filmsOf (k .shelf)) → boxCount (filmAt k i .layout) ≤ 36
 boxes-few k i e h =
-    let shelf = shelf-facts (k .numbers) (k .session) (k .shelf) (core-facts k e .shelf) in
+    let shelf = shelf-facts (k .numbers) (sessionsOf k) (k .shelf) (core-facts k e .shelf) in
     let film = every-at (filmSound (k .numbers)) (filmsOf (k .shelf)) i noFilm (shelf .films) h in
     boxes-most (filmAt k i .layout) (film-facts (k .numbers) (filmAt k i) film .layout)
 

@@ -34,17 +34,17 @@ ghost use Rattle.setting.specs.Asked.{asked, rulesFor, PictureLeft};
 
 fn session_set(k: Core, d: &[u8], syntax: Syntax) -> Core
     requires { ⌜ firstBroken (attributeRules (sessionStandings (listingOf (now d) syntax))) ≡ 0 ⌝ }
-    ensures { λ r. ⌜ r ≡ sessionSet k (listingOf (now (d .entry)) syntax) ⌝ }
+    ensures { λ r. ⌜ r ≡ sessionSet k 0 (listingOf (now (d .entry)) syntax) ⌝ }
 {
     let numbers = k.numbers;
     let shelf = k.shelf;
     let queue = k.queue;
     let opened = k.opened;
-    let old = k.session;
-    let session = attributes::session_with(d, syntax, old);
+    let places = k.sessions;
+    let session = attributes::session_with(d, syntax, shelves::the_session(places));
     Core {
         numbers,
-        session,
+        sessions: [session],
         shelf,
         queue,
         opened,
@@ -58,14 +58,14 @@ fn with_film(k: Core, i: usize, f: Film, numbers: Numbers) -> Core
     requires { ⌜ Ready k × (i < length (filmsOf (k .shelf))) ⌝ }
     ensures { λ r. ⌜ r ≡ withNumbers numbers (withFilm i f k) ⌝ }
 {
-    let session = k.session;
+    let sessions = k.sessions;
     let queue = k.queue;
     let opened = k.opened;
     let all = k.shelf;
     let shelf = shelves::film_replaced(all, i, f);
     Core {
         numbers,
-        session,
+        sessions,
         shelf,
         queue,
         opened,
@@ -103,6 +103,7 @@ fn with_box(f: Film, j: usize, b: ImageBox) -> Film
     places[j] = b;
     Film {
         name,
+        session: f.session,
         layout,
         orientation: f.orientation,
         magnification: f.magnification,

@@ -2,4 +2,4 @@
 mod Without
 pub mod Filled
 mod Tidied
-mod Within
+pub mod Within

@@ -8,7 +8,7 @@ use lib.ListN.{length, getD, take, length-take}
 use lib.Seq.{getD-take}
 
 -- an element is read whatever stands for those that are not there
-getD-there : {A : Type 0} (xs : List A) (i : ℕ) (d e : A) → i < length xs → getD xs i d ≡ getD xs i e
+pub getD-there : {A : Type 0} (xs : List A) (i : ℕ) (d e : A) → i < length xs → getD xs i d ≡ getD xs i e
 getD-there [] i d e h = absurd (omega arith)
 getD-there (x ∷ xs) zero d e h = refl
 getD-there (x ∷ xs) (suc i) d e h = getD-there xs i d e (omega arith)

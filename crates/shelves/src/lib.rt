@@ -1,4 +1,4 @@
-// Shelves: the records changed: names, films, boxes, the session and the queue's oldest entry.
+// Shelves: the records changed: names, films, boxes, sessions and the queue's oldest entry.
 use rules::Core;
 use rules::Entry;
 use rules::Film;
@@ -9,6 +9,7 @@ use rules::Numbers;
 use rules::Opened;
 use rules::Picture;
 use rules::Queue;
+use rules::SESSIONS;
 use rules::Serial;
 use rules::Session;
 use rules::Shelf;
@@ -17,8 +18,9 @@ ghost use Prim.Native.Nat.{_+_, _<_, _≤_};
 ghost use mathlib.Core.List.{[], _∷_, _++_, map};
 ghost use lib.ListN.{length, getD, set, take, drop};
 ghost use Rattle.rules.specs.Bounds.{mostBoxes};
-ghost use Rattle.rules.specs.Lists.{from, filledTo, without};
-ghost use Rattle.rules.specs.Records.{noName, madeName, sentName, noBox, noFilm, filmsOf, shelved, noEntry, entriesOf, queued, noSession, newSession, serialsUsed, pictureUsed};
+ghost use Rattle.choice.specs.Pick.{not};
+ghost use Rattle.rules.specs.Lists.{from, those, filledTo, without};
+ghost use Rattle.rules.specs.Records.{noName, madeName, sentName, noBox, noFilm, filmsOf, shelved, noEntry, entriesOf, queued, noSession, noSessions, newSession, under, withSessions, withFilms, serialsUsed, pictureUsed};
 ghost use Rattle.rules.specs.Effects.{nameFrom, newBox, sessionDeleted, filmDeleted};
 ghost use Rattle.rules.specs.Calls.{withOpened, closed};
 
@@ -83,6 +85,7 @@ pub fn no_film() -> Film
 {
     Film {
         name: no_name(),
+        session: 0,
         layout: Layout {
             kind: 0,
             lines: 0,
@@ -308,10 +311,18 @@ pub fn picture_used(n: Numbers) -> Numbers
     }
 }
 
+// The session at the only place.
+pub fn the_session(places: [Session; SESSIONS]) -> Session
+    ensures { λ r. ⌜ r ≡ getD places 0 noSession ⌝ }
+{
+    let xs = places;
+    xs[0]
+}
+
 // The core: "Deletion takes all below it."
 
-pub fn session_deleted(k: Core) -> Core
-    ensures { λ r. ⌜ r ≡ sessionDeleted k ⌝ }
+fn nothing_left(k: Core) -> Core
+    ensures { λ r. ⌜ r ≡ withSessions noSessions (withFilms [] k) ⌝ }
 {
     let numbers = k.numbers;
     let queue = k.queue;
@@ -320,11 +331,19 @@ pub fn session_deleted(k: Core) -> Core
     let session = no_session();
     Core {
         numbers,
-        session,
+        sessions: [session],
         shelf,
         queue,
         opened,
     }
+}
+
+// While there is one place, there are no films beside those of its session.
+pub fn session_deleted(k: Core) -> Core
+    requires { ⌜ those (λ f. not (under 0 f)) (filmsOf (k .shelf)) ≡ [] ⌝ }
+    ensures { λ r. ⌜ r ≡ sessionDeleted k 0 ⌝ }
+{
+    nothing_left(k)
 }
 
 pub fn film_deleted(k: Core, i: usize) -> Core
@@ -332,14 +351,14 @@ pub fn film_deleted(k: Core, i: usize) -> Core
     ensures { λ r. ⌜ r ≡ filmDeleted k i ⌝ }
 {
     let numbers = k.numbers;
-    let session = k.session;
+    let sessions = k.sessions;
     let queue = k.queue;
     let opened = k.opened;
     let all = k.shelf;
     let shelf = film_removed(all, i);
     Core {
         numbers,
-        session,
+        sessions,
         shelf,
         queue,
         opened,
@@ -352,12 +371,12 @@ fn with_opened(k: Core, opened: Opened) -> Core
     ensures { λ r. ⌜ r ≡ withOpened opened k ⌝ }
 {
     let numbers = k.numbers;
-    let session = k.session;
+    let sessions = k.sessions;
     let shelf = k.shelf;
     let queue = k.queue;
     Core {
         numbers,
-        session,
+        sessions,
         shelf,
         queue,
         opened,
@@ -380,7 +399,7 @@ pub fn opened(k: Core, context: u8, syntax: u8, room: u32) -> Core
 pub fn closed(k: Core) -> Core
     ensures { λ r. ⌜ r ≡ closed k ⌝ }
 {
-    let left = session_deleted(k);
+    let left = nothing_left(k);
     let none = Opened {
         live: 0,
         context: 0,

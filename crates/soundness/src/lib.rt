@@ -144,15 +144,13 @@ pub fn core_sound(k: Core) -> bool
     ensures { λ r. ⌜ r ≡ coreSound k ⌝ }
 {
     let n = k.numbers;
-    let session = k.session;
+    let places = k.sessions;
+    let session = shelves::the_session(places);
     let shelf = k.shelf;
     if !distinct::uids_apart(session, shelf) {
         return false;
     }
     if !names::numbers_sound(n) {
-        return false;
-    }
-    if 1 < session.live {
         return false;
     }
     if !sessions::session_place_sound(n, session) {

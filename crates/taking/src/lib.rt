@@ -97,14 +97,14 @@ fn without_oldest(k: Core) -> Core
     ensures { λ r. ⌜ r ≡ withQueue (drop 1 (entriesOf (k .queue))) k ⌝ }
 {
     let numbers = k.numbers;
-    let session = k.session;
+    let sessions = k.sessions;
     let shelf = k.shelf;
     let opened = k.opened;
     let all = k.queue;
     let queue = shelves::oldest_removed(all);
     Core {
         numbers,
-        session,
+        sessions,
         shelf,
         queue,
         opened,

@@ -2,10 +2,14 @@ use mathlib.Core.Path.{ap, subst, _∙_}
 use Rattle.rules.specs.declared.Core.{Core}
 use Rattle.rules.specs.Checks.{quietly, deletePlan}
 use Rattle.promises.proofs.Tidy.{shelf-few}
+use Rattle.promises.proofs.Places.{films-beside}
 use Rattle.instances.specs.There.{There}
 use borrow.Author.Needs.{needs}
 use Rattle.acting.proofs.removed.Statement.{statement}
 use Rattle.acting.proofs.removed.Tie as tie
+
+session-deleted-requires : tie.Need-session-deleted-requires
+session-deleted-requires c κs = let o : tie.Start = search in films-beside (o .args .k) (o .pre .0 .0)
 
 film-deleted-requires : tie.Need-film-deleted-requires
 film-deleted-requires c κs =
@@ -36,7 +40,7 @@ removed-spec =
     (λ c κs. search needs)
     (λ c κs. search needs)
     (λ c. search needs)
-    (λ c κs. search needs)
+    session-deleted-requires
     (λ c κs. search needs)
     (λ c. search needs)
     film-deleted-requires

@@ -34,7 +34,10 @@ cast-first c =
 
 returns : tie.Need-returns
 unfolding newFilm
-returns c = c .film-with .ensures ∙ rw (c .before .before .own-serials .ensures .0, c .before .before .before .new-boxes .ensures, c .before .before .before .before .box-count .ensures .0, c .before .before .before .before .before .layout-in .ensures, c .before .before .before .before .before .before .name-from .ensures)
+returns c =
+    let o : tie.Start = search in
+    let kept = film-kept (o .args .k) (o .args .sent .now) (listingOf (o .args .d .now) (o .args .syntax)) (o .pre .1) in
+    c .film-with .ensures ∙ rw (kept .own, c .before .before .own-serials .ensures .0, c .before .before .before .new-boxes .ensures, c .before .before .before .before .box-count .ensures .0, c .before .before .before .before .before .layout-in .ensures, c .before .before .before .before .before .before .name-from .ensures)
 
 pub new-film-spec : {M : Type 1} → statement M
 new-film-spec =

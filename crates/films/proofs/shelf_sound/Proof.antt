@@ -1,6 +1,6 @@
 use Rattle.rules.specs.Records.{filmsOf}
 use Rattle.rules.specs.Sound.{shelfSound}
-use Rattle.names.proofs.Tests.{tests, told-most, told-over}
+use Rattle.names.proofs.Tests.{tests}
 use borrow.Author.Needs.{needs}
 use Rattle.films.proofs.shelf_sound.Statement.{statement}
 use Rattle.films.proofs.shelf_sound.Tie as tie
@@ -11,9 +11,10 @@ shelf-sound-spec =
     tie.close
     (tie.spec
     (λ c. search needs)
+    (λ c. search tests depth 7)
     (λ c κs. search needs)
-    (λ c. search (tests, told-most, told-over) depth 7)
+    (λ c. search tests depth 7)
     (λ c κs. search needs)
-    (λ c. search (tests, told-most, told-over) depth 7)
+    (λ c. search tests depth 7)
     (λ c κs. search needs)
-    (λ c. search (tests, told-most, told-over) depth 7))
+    (λ c. search tests depth 7))

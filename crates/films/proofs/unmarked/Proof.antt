@@ -6,9 +6,10 @@ pub unmarked-spec : {M : Type 1} → statement M
 unmarked-spec =
     tie.close
     (tie.spec
-    (λ c. search tests depth 8)
-    (λ c. search tests depth 8)
-    (λ c. search tests depth 8)
-    (λ c. search tests depth 8)
-    (λ c. search tests depth 8)
-    (λ c. search tests depth 8))
+    (λ c. search tests depth 9)
+    (λ c. search tests depth 9)
+    (λ c. search tests depth 9)
+    (λ c. search tests depth 9)
+    (λ c. search tests depth 9)
+    (λ c. search tests depth 9)
+    (λ c. search tests depth 9))

@@ -12,11 +12,11 @@ returns c =
     let opened = c .before .before in
     let queue = opened .before .before .before .before .before in
     let shelf = queue .before .before .before .before .before in
-    let session = shelf .before .before .before .before .before in
-    let numbers = session .before .before .before .before .before in
+    let sessions = shelf .before .before .before .before .before in
+    let numbers = sessions .before .before .before .before .before in
     let start = numbers .before .before .before .before in
     let a = start .args in
-    rw (core-steps .same (a .x) (now (a .s)) (a .p) (rw core-size (start .pre)), opened .put-opened .ensures, queue .put-queue .ensures, shelf .put-shelf .ensures, session .put-session .ensures, numbers .put-numbers .ensures)
+    rw (core-steps .same (a .x) (now (a .s)) (a .p) (rw core-size (start .pre)), opened .put-opened .ensures, queue .put-queue .ensures, shelf .put-shelf .ensures, sessions .put-sessions .ensures, numbers .put-numbers .ensures)
 
 pub put-core-spec : {M : Type 1} → statement M
 put-core-spec =
