@@ -1,4 +1,4 @@
-/* Counting what a trial reached. COVER names a branch of document 01; CHECK is a row
+/* Counting what a trial reached. COVER names a branch of the rules; CHECK is a row
    "test => number", counted where it applies. Without -DCOVERAGE nothing is counted. */
 #ifndef COVER_H
 #define COVER_H

@@ -1,5 +1,5 @@
-/* The second program: document 01 once more. One call a line on standard input, one reply a line
-   on standard output (design.md, section 8). With --dump the records follow the last reply, each
+/* The second program: the rules once more. One call a line on standard input, one reply a line
+   on standard output (tests/traces/README.md). With --dump the records follow the last reply, each
    of their lines after a bar. */
 #include <inttypes.h>
 #include <stdio.h>

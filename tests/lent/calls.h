@@ -1,4 +1,4 @@
-/* The five calls on lent buffers. Each call is judged: it returns the number that document 01's table of refusals
+/* The five calls on lent buffers. Each call is judged: it returns the number that the rules' table of refusals
  * gives, or where there is none an answer that the fragment allows; guards stay; a refusal changes nothing, but for 5,
  * which leaves what close leaves; bytes past those written stay; what is left keeps the rules. The program ends where
  * one does not. */

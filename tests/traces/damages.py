@@ -1,5 +1,5 @@
 """Damage: requests and calls that must be refused, failed, dropped or ignored, each with the reply
-that document 01 gives. Every function wants an open console with a session and a film with boxes;
+that the rules give. Every function wants an open console with a session and a film with boxes;
 `c.some` hands over all cases to a thorough console, else one at random, or as many as it picks."""
 from console import Console
 from faults import *

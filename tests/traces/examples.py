@@ -1,4 +1,4 @@
-"""P1 to P12 of document 01, each as a trace with its replies."""
+"""P1 to P12 of docs/RULES.md, each as a trace with its replies."""
 import random
 
 from console import *

@@ -1,5 +1,5 @@
 #!/usr/bin/env python3
-"""Writes the kept traces with their replies, small ones that show each part of document 01 once.
+"""Writes the kept traces with their replies, small ones that show each part of the rules once.
 Replies are the second program's; where the console foretold one, they must agree.
 Writes too which traces crates/traces is to replay, and what it is to say of them."""
 import os

@@ -17,7 +17,7 @@ LONG_FORM = ("OB", "OF", "OW", "SQ", "UN", "UT")
 SHORT_FORM = ("AE", "AS", "AT", "CS", "DA", "DS", "DT", "FD", "FL", "IS", "LO", "LT", "PN", "SH",
               "SL", "SS", "ST", "TM", "UI", "UL", "US")
 
-# The tags that document 01 names, with their VRs.
+# The tags of rule 5.14, with their VRs.
 NAMED = {
     0x00000000: "UL", 0x00000002: "UI", 0x00000003: "UI", 0x00000100: "US", 0x00000110: "US",
     0x00000120: "US", 0x00000800: "US", 0x00000900: "US", 0x00001000: "UI", 0x00001001: "UI",

@@ -1,4 +1,4 @@
--- Document 01, "Collecting a message", as the code holds it: the states by number, and what a fragment comes to as a value.
+-- Chapter 4 of the rules (docs/RULES.md), as the code holds it: the states by number, and what a fragment comes to as a value.
 use Prim.Native.Nat.{ℕ, _+_, _≤_, _/_, _%_}
 use mathlib.Core.Path.{_≡_}
 use mathlib.Core.Bool.{Bool, false}

@@ -1,4 +1,4 @@
--- The three fakes of document 01, beside the book: on a computed run each of them answers otherwise.
+-- The three fakes of rule 8.5, beside the book: on a computed run each of them answers otherwise.
 -- Strike-out alone admits them all (strike/proofs/Fakes); demand 3 is stated over the book's own step.
 -- Assumes nothing.
 use mathlib.Core.Path.{_≡_, refl}

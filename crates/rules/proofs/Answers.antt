@@ -48,7 +48,7 @@ written =
     ∷ gives (take 12 entryWritten) (1 ∷ 0 ∷ 0 ∷ 0 ∷ 2 ∷ 0 ∷ 0 ∷ 0 ∷ 3 ∷ 0 ∷ 0 ∷ 0 ∷ [])
     ∷ gives (drop (35 * 4) entryWritten) (36 ∷ 0 ∷ 0 ∷ 0 ∷ 0x34 ∷ 0x12 ∷ 99 ∷ 0 ∷ (chars "1.9.7.100" ++ replicate 55 0))
     ∷ gives (numberAt 4 entryWritten 0 ∷ numberAt 4 entryWritten 4 ∷ numberAt 4 entryWritten (35 * 4) ∷ numberAt 2 entryWritten (36 * 4) ∷ numberAt 2 entryWritten (36 * 4 + 2) ∷ []) (1 ∷ 2 ∷ 36 ∷ 0x1234 ∷ 99 ∷ [])
-    -- "the document's number" for each answer
+    -- rule 8.2: the number of each answer
     ∷ gives (map numberOf (machine.refused 5 ∷ machine.done ∷ machine.told [] ∷ machine.wait ∷ machine.dropped ∷ machine.ignored ∷ machine.failure (replyWith NoNote) noData ∷ machine.success (replyWith NoNote) noData ∷ [])) (5 ∷ 0 ∷ 0 ∷ 16 ∷ 17 ∷ 18 ∷ 19 ∷ 19 ∷ [])
     ∷ []
 

@@ -1,4 +1,4 @@
--- Every code of document 01 with its number, a text that is none, and what is kept where a value is absent; classes and operations.
+-- Every code of the rules with its number, a text that is none, and what is kept where a value is absent; classes and operations.
 -- Assumes nothing.
 use mathlib.Core.Path.{refl}
 use mathlib.Core.List.{List, [], _∷_, _++_, map}

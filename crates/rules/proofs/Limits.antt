@@ -1,4 +1,4 @@
--- Both sides of each bound of document 01, computed.
+-- Both sides of each bound of the rules (docs/RULES.md), computed.
 -- Assumes nothing.
 use mathlib.Core.Path.{refl}
 use mathlib.Core.List.{List, [], _∷_, _++_, map}

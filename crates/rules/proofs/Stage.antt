@@ -154,7 +154,7 @@ abbrev pub after : Core → Result Core Reply → Core
 after k (fails r) = k
 after k (does done r) = done
 
--- an example: what the book gives, and what document 01 says
+-- an example: what the book gives, and what the rules say
 pub data Example : Type 0 where
   gives : List ℕ → List ℕ → Example
 

@@ -1,5 +1,5 @@
 -- The kept trace book-run, computed: each operation, a film deleted twice (P11), a queue that outlives two closes, in both syntaxes.
--- Its calls and replies are held to crates/traces/data by tests/book; what the records hold is document 01's.
+-- Its calls and replies are held to crates/traces/data by tests/book; what the records hold is by the rules.
 -- Assumes nothing.
 use mathlib.Core.Path.{refl}
 use mathlib.Core.List.{List, [], _∷_, _++_}

@@ -61,7 +61,7 @@ noteBytes (PictureAt n place size) = octets 2 2 ++ (octets 4 n ++ (octets 4 plac
 unfoldable pub reportBytes : Reply → List ℕ
 reportBytes r = octets 2 (r .status) ++ (octets 2 (length (r .command)) ++ (octets 2 (length (r .dataSet)) ++ noteBytes (r .note)))
 
--- "For every enum answer the document's number": done 0, the refusals 1 to 6, wait 16, dropped 17, ignored 18, response 19
+-- rule 8.2, the number of each answer: done 0, the refusals 1 to 6, wait 16, dropped 17, ignored 18, response 19
 unfoldable pub numberOf : Answer Reply (List ℕ) → ℕ
 numberOf (refused n) = n
 numberOf done = 0

@@ -1,4 +1,4 @@
--- The records: values as PS3.5 and document 01 read them.
+-- The records: values as rules 7.2, 7.12 and 7.13 (docs/RULES.md) read them.
 use Prim.Native.Nat.{ℕ, _+_, _*_, _-_}
 use mathlib.Core.Bool.{Bool, false}
 use mathlib.Core.List.{List, [], _∷_}

@@ -1,4 +1,4 @@
--- Fakes of document 01, each over any service G. All of them satisfy strike-out, so it is worth nothing alone: demand 3 is stated over the
+-- Fakes of rule 8.5, each over any service G. All of them satisfy strike-out, so it is worth nothing alone: demand 3 is stated over the
 -- step of the right service, which tells each of them apart (Toy).
 -- Assumes nothing.
 use mathlib.Core.Bool.{Bool, true, false}

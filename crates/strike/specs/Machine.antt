@@ -1,4 +1,4 @@
--- Document 01, "A call refused" and "Collecting a message": one call, over any service.
+-- Chapters 3 and 4 of the rules (docs/RULES.md): one call, over any service.
 use mathlib.Core.Bool.{Bool}
 use mathlib.Core.Option.{Option, none, some}
 use mathlib.Core.List.{List, [], _++_}

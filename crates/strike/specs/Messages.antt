@@ -1,4 +1,4 @@
--- Document 01, "Collecting a message", for demand 3: the messages of a run, how each ended, and the run without some of them.
+-- Rules 4.16 and 4.17 (docs/RULES.md), for demand 3: the messages of a run, how each ended, and the run without some of them.
 use mathlib.Core.Path.{_≡_}
 use mathlib.Core.Bool.{Bool, true, false}
 use mathlib.Core.Option.{Option, none, some}

@@ -1,4 +1,4 @@
--- Document 01, "Requests": what collecting needs of it. A failure changes no record, by its form.
+-- Chapter 6 of the rules (docs/RULES.md): what collecting needs of requests. A failure changes no record, by its form.
 use mathlib.Core.List.{List, []}
 use Prim.Native.Nat.{ℕ}
 use Rattle.strike.specs.declared.Reading.{Reading}

@@ -1,4 +1,4 @@
--- Elements (PS3.5): the known VRs, and the tags named in document 01, each with its VR.
+-- Elements (PS3.5): the known VRs (rule 5.10), and the tags of rule 5.14 (docs/RULES.md), each with its VR.
 -- A VR is the 16-bit number that its two letters make, little endian: SQ is 0x53 and 0x51, so 0x5153.
 use Prim.Native.Nat.{ℕ}
 use mathlib.Core.Bool.{Bool}
@@ -89,7 +89,7 @@ US = 0x5355
 abbrev pub UT : ℕ
 UT = 0x5455
 
--- the tags named in the document, each with its VR: 35 rows
+-- the named tags, each with its VR: 35 rows
 abbrev pub named : List Row
 named =
     (0x0000_0000 is UL)

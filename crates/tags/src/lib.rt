@@ -1,4 +1,4 @@
-// Tags: the value representations (VR) and the tags that document 01 names.
+// Tags: the value representations (VR) of rule 5.10 and the tags of rule 5.14 (docs/RULES.md).
 use choice::Row;
 ghost use mathlib.Core.Path.{_≡_};
 ghost use Rattle.tags.specs.Table.{named, forms, namedVr, formOf};

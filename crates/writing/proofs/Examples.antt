@@ -1,4 +1,4 @@
--- Examples of document 01, and trees that fit to be written.
+-- Examples of the rules, and trees that fit to be written.
 -- Assumes nothing.
 use Prim.Native.Nat.{ℕ, _*_, _≤_}
 use mathlib.Core.Path.{_≡_, refl}
