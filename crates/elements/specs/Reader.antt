@@ -1,4 +1,4 @@
--- Elements (PS3.5): the grammar. A list holds elements, a sequence element holds items, an item holds a list.
+-- Elements (PS3.5), rules 5.11 and 5.12: the grammar. A list holds elements, a sequence element holds items, an item holds a list.
 use Prim.Native.Nat.{ℕ, zero, suc, _+_, _-_}
 use mathlib.Core.Bool.{false}
 use mathlib.Core.List.{List}

@@ -1,4 +1,4 @@
--- Elements (PS3.5): what one header says, and the first rule that it breaks.
+-- Elements (PS3.5), rules 5.1 to 5.8: what one header says, and the first rule that it breaks.
 use Prim.Native.Nat.{ℕ, _+_, _-_, _*_, _%_}
 use mathlib.Core.Bool.{Bool, true, false}
 use mathlib.Core.List.{List, [], _∷_}

@@ -1,4 +1,4 @@
--- The records: what a data set says for a session, a film and a box.
+-- The records, rules 7.1 to 7.14 and check 8 (docs/RULES.md): what a data set says for a session, a film and a box.
 use Prim.Native.Nat.{ℕ, _+_, _*_, _%_}
 use mathlib.Core.Bool.{Bool, true, false}
 use mathlib.Core.List.{List, [], _∷_, _++_}

@@ -1,4 +1,4 @@
--- Numbers that bound it.
+-- Numbers that bound it: chapter 2 of the rules (docs/RULES.md).
 use Prim.Native.Nat.{ℕ, _+_, _*_}
 
 -- the message buffer, in bytes

@@ -1,4 +1,4 @@
--- A call refused, and what the calls do: the service that collecting is over.
+-- A call refused, and what the calls do (chapter 3 of the rules): the service that collecting is over.
 use Prim.Native.Nat.{ℕ, _%_}
 use mathlib.Core.Bool.{Bool}
 use mathlib.Core.List.{List, [], _∷_, _++_}

@@ -1,4 +1,4 @@
--- Requests: status checks 1 to 11, first that applies, and what is done where none of 1 to 10 does.
+-- Requests, rules 6.1 to 6.11, 6.18 to 6.22: status checks 1 to 11, first that applies, and what is done where none of 1 to 10 does.
 use Prim.Native.Nat.{ℕ}
 use mathlib.Core.Bool.{Bool, true, false}
 use mathlib.Core.List.{List, [], _∷_, _++_}

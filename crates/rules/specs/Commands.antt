@@ -1,4 +1,4 @@
--- Requests: readable commands, and the request that one is.
+-- Requests, rules 6.12 to 6.17: readable commands, and the request that one is.
 use Prim.Native.Nat.{ℕ, _-_}
 use mathlib.Core.Bool.{Bool, true, false}
 use mathlib.Core.List.{List}

@@ -1,4 +1,4 @@
--- The records: what a request that is done changes.
+-- The records, rules 7.15 to 7.21: what a request that is done changes.
 use Prim.Native.Nat.{ℕ, _+_, _-_, _%_}
 use mathlib.Core.Bool.{Bool}
 use mathlib.Core.List.{List, [], _∷_, _++_, map}

@@ -1,4 +1,4 @@
--- Change request R-1: where the boxes of a film stand, by lines of so many boxes each.
+-- The records, rule 7.6 (R-1): where the boxes of a film stand, by lines of so many boxes each.
 use Prim.Native.Nat.{ℕ, suc, _+_, _-_, _<_}
 use mathlib.Core.List.{List, [], _∷_}
 use lib.Dec.{eqb, ltb}

@@ -1,4 +1,4 @@
--- Requests: the response, and the created film's data set.
+-- Requests, rules 6.20 to 6.23: the response, and the created film's data set.
 use Prim.Native.Nat.{ℕ, _+_, _≤_}
 use mathlib.Core.Bool.{Bool}
 use mathlib.Core.List.{List, [], _∷_}

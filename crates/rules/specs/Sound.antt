@@ -1,4 +1,4 @@
--- The records: their rules, as one test. Unused places hold zeros, so that equal records have equal bytes.
+-- The records, rules 7.22 to 7.27, as one test. Unused places hold zeros, so that equal records have equal bytes.
 use Prim.Native.Nat.{ℕ, _+_, _%_}
 use mathlib.Core.Bool.{Bool, true, false}
 use mathlib.Core.List.{List, [], _∷_, _++_, map}

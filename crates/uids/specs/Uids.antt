@@ -1,4 +1,4 @@
--- Unique identifiers by PS3.5: what one is, what its padding is, which begin with a root, and those made of a root and a serial.
+-- Unique identifiers, rule 2.5: what one is, what its padding is, which begin with a root, and those made of a root and a serial.
 use Prim.Native.Nat.{ℕ, zero, suc, _+_, _-_, _/_, _%_}
 use mathlib.Core.Bool.{Bool, true}
 use mathlib.Core.List.{List, [], _∷_, _++_}

@@ -1,4 +1,4 @@
--- Elements (PS3.5): "Writing uses defined lengths, ascending tags, UIDs padded with one zero, text with a space."
+-- Elements (PS3.5), rule 5.16: "Writing uses defined lengths, ascending tags, UIDs padded with one zero, text with a space."
 use Prim.Native.Nat.{ℕ, _/_, _%_}
 use mathlib.Core.List.{List, [], _++_}
 use lib.Dec.{eqb}
