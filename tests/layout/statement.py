@@ -6,7 +6,8 @@ CONFORMANCE, HOST, RECORDS = "docs/CONFORMANCE.md", "docs/HOST.md", "docs/RECORD
 CLASSES = {"Verification": "verificationClass", "Basic Film Session": "sessionClass", "Basic Film Box": "filmClass",
            "Basic Grayscale Image Box": "boxClass"}
 # The cases of `offers`, as the table of operations has its rows and columns.
-CASES = {"Verification": "Verification", "Basic Film Session": "Sessions", "Basic Film Box": "Films", "Basic Grayscale Image Box": "Boxes"}
+CASES = {"Verification": "Verification", "Basic Film Session": "Sessions", "Basic Film Box": "Films",
+         "Basic Grayscale Image Box": "Boxes"}
 OPERATIONS = ["Echo", "Create", "Set", "Act", "Delete"]
 # An attribute with texts: their list, the definition of what is new, its field there, and its name in docs/RECORDS.md.
 TEXTS = {
@@ -142,8 +143,8 @@ def try_values(book, text, records):
     for name, tag in (("Samples per Pixel", "0x0028_0002"), ("Pixel Representation", "0x0028_0103")):
         yield row_ends(text, name, str(book.tested("imageStandings", tag)))
     action = re.search(r"eqb \(r \.kind\) (\d+)", book.texts["planOf"])[1]
-    for said in (f"Action type {action} prints all films", f"Action type {action} prints the film", f"the action type is not {action} "):
-        yield stands(CONFORMANCE, text, said)
+    for said in ("Action type {} prints all films", "Action type {} prints the film", "the action type is not {} "):
+        yield stands(CONFORMANCE, text, said.format(action))
 
 
 def try_statuses(book, text):
