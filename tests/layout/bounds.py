@@ -4,6 +4,7 @@ import re
 # Bounds that stand within a definition: its file, and the number's place in its text.
 WITHIN = {
     "most copies": ("rules/specs/Attributes", r"countIn (\d+)"),
+    "copies of a new session": ("rules/specs/Records", r"newSession = record \{[^}]*copies = (\d+);"),
     "longest UID": ("uids/specs/Uids", r"isUid s = both \(leb \(length s\) (\d+)\)"),
     "longest label": ("rules/specs/Values", r"labelAllowed v = both \(leb \(length \(trimmed v\)\) (\d+)\)"),
     "nested sequences": ("elements/specs/Reader", r"dataScope s syntax = scopeOf syntax (\d+)"),
@@ -21,7 +22,7 @@ BOUNDS = {
         ("sequences at most {} deep", "nested sequences"),
         ("One of more than {} bytes, and one that is not readable, is dropped", "commandLimit"),
         ("of an odd number from 1 to {};", "most context"),
-        ("| IS | U/M | 1 to {} | 1 |", "most copies"),
+        ("| IS | U/M | 1 to {} | {} |", "most copies", "copies of a new session"),
         ("| LO | U/M | up to {} characters", "longest label"),
         ("C and R one digit from 1 to {}, columns first", "most in a line"),
         ("1 to {} rows, with r1, r2 and so on boxes, each one digit from 1 to {}", "most lines", "most in a line"),

@@ -33,16 +33,18 @@ STATUSES = [
     ("Basic Grayscale Image Box, N-SET", [*TARGET, "boxRules"], set()),
     ("every request", ["decideCommand", "generalRules"], set()),
 ]
-# The definitions of each call's lines, and what feed returns beside them.
+# The definitions of each call's lines, and what feed returns beside them: answers by the names of their cases, a wrong header.
 CALLS = {
     "start": ["shortRules", "startRules"], "open": ["recordsRules", "shortRules", "openRules"],
     "feed": ["recordsRules", "shortRules", "feedRules"], "close": ["recordsRules", "shortRules", "closeRules"],
     "take": ["recordsRules", "shortRules", "takeRules"],
 }
-FED = {"refused": 5, "wait": 16, "dropped": 17, "ignored": 18, "failure": 19}
+ANSWERS, WRONG_HEADER = ["wait", "dropped", "ignored", "failure"], 5
 # The states in the order of their numbers, as docs/RECORDS.md calls them.
 STATES = {"idle": "idle", "inCommand": "in command", "skippingCommand": "skipping command", "inData": "in data",
           "skippingData": "skipping data"}
+# The definitions that judge attributes; what is optional there begins with this word.
+STANDINGS = ["sessionStandings", "filmCreateStandings", "referenceStandings", "optionalFilm", "boxStandings", "imageStandings"]
 BITS = {"Bits Allocated": "0x0028_0100", "Bits Stored": "0x0028_0101", "High Bit": "0x0028_0102"}
 STATUS_HEAD = "| Code | Kind | Meaning | When | What the console does |"
 DEFINITION = re.compile(r"^(?:abbrev|unfoldable) pub ([\w-]+) : .*\n((?:.+\n)+)", re.M)
@@ -68,6 +70,12 @@ class Book:
     def tested(self, name, tag):
         """The number that a definition asks of a tag's value."""
         return int(re.search(rf"eqb \(us l {tag}\) (\d+)|eqb n (\d+)\) l {tag}", self.texts[name]).expand(r"\1\2"))
+
+    def usages(self):
+        """Each attribute that is judged, and its usage."""
+        for part in (part.strip() for name in STANDINGS for part in re.split(r"∷| =\n", self.texts[name])):
+            for group, element in re.findall(r"0x(\w{4})_(\w{4})", part):
+                yield f"({group},{element})", "U/M" if part.startswith("optional") else "M/M"
 
     def warning(self, instance):
         """What check 11 gives where this instance is printed."""
@@ -128,6 +136,13 @@ def try_tags(book, text, dictionary):
         yield None if said == str(len(vrs)) else f"{said} tags, and there are {len(vrs)}"
 
 
+def try_usages(book, text):
+    """An attribute that the library sends stands there a second time."""
+    for tag, due in book.usages():
+        there = set(re.findall(rf"\| {re.escape(tag)} \| \w\w \| ([MU-]/M) \|", text)) - {"-/M"}
+        yield None if there == {due} else f"the usage of {tag} is {' '.join(sorted(there)) or 'not told'}, and should be {due}"
+
+
 def try_values(book, text, records):
     for name, (definition, new, field, short) in TEXTS.items():
         texts = book.strings(definition)
@@ -169,13 +184,12 @@ def try_statuses(book, text):
 
 def returned(book):
     """By number, the calls that return it."""
-    calls = {0: {"start", "open", "close", "take"}}
+    calls = {0: {"start", "open", "close", "take"}, WRONG_HEADER: {"feed"}}
     for call, definitions in CALLS.items():
         for number in (n for name in definitions for n in re.findall(r"⇒ (\d+)\)", book.texts[name])):
             calls.setdefault(int(number), set()).add(call)
-    for case, number in FED.items():
-        told = re.search(rf"numberOf \(?{case}\b[^=]*= (\w+)", book.texts["numberOf"])[1]
-        calls.setdefault(number if told == "n" else int(told), set()).add("feed")
+    for case in ANSWERS:
+        calls[int(re.search(rf"numberOf \(?{case}\b[^=]*= (\d+)", book.texts["numberOf"])[1])] = {"feed"}
     return calls
 
 
@@ -206,6 +220,7 @@ def try_statement(top):
     book = Book(top)
     text, host, records, header = ((top / path).read_text(encoding="utf-8")
                                    for path in (CONFORMANCE, HOST, RECORDS, "include/gateway.h"))
-    for wrong in (*try_classes(book, text), *try_tags(book, text, dictionary_of(top)), *try_values(book, text, records),
-                  *try_statuses(book, text), *try_calls(book, host, header), *try_states(book, records)):
+    for wrong in (*try_classes(book, text), *try_tags(book, text, dictionary_of(top)), *try_usages(book, text),
+                  *try_values(book, text, records), *try_statuses(book, text), *try_calls(book, host, header),
+                  *try_states(book, records)):
         yield wrong and (wrong if wrong.startswith("docs/") else f"{CONFORMANCE}: {wrong}")
