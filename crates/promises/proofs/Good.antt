@@ -167,15 +167,18 @@ live-fits n s h live e z =
     let medium = leb-true (s .medium) 2 (t .1 .medium) in
     let destination = leb-true (s .destination) 1 (t .1 .destination) in
     let used = leb-true (s .used) 64 (t .1 .label .short) in
-    (omega arith, (good-name n (s .name) h (t .0) (z .name), (omega arith, (omega arith, (omega arith, (omega arith, (omega arith, good-array byte 64 (s .label) (z .label) (label-bytes (s .used) (s .label) (t .1 .label)))))))))
+    let name = good-name n (s .name) h (t .0) (z .name) in
+    let label = good-array byte 64 (s .label) (z .label) (label-bytes (s .used) (s .label) (t .1 .label)) in
+    search arith
 
 no-session-fits : (s : Session) → s .live ≤ 1 → sessionBlank s ≡ true → SessionSized s → sessionFormat .Good s
 unfolding sessionFormat
 no-session-fits s live e z =
-    let values : List ℕ = s .copies ∷ s .priority ∷ s .medium ∷ s .destination ∷ s .used ∷ [] in
     let t = all-true _ e in
-    let v = zero-bytes values (t .1 .0) in
-    (omega arith, (good-no-name (s .name) (t .0) (z .name), (v .0, (v .1 .0, (v .1 .1 .0, (v .1 .1 .1 .0, (v .1 .1 .1 .1 .0, good-array byte 64 (s .label) (z .label) (zero-bytes (s .label) (t .1 .1 .0)))))))))
+    let numbers = zero-bytes _ (t .1 .0) in
+    let name = good-no-name (s .name) (t .0) (z .name) in
+    let label = good-array byte 64 (s .label) (z .label) (zero-bytes (s .label) (t .1 .1 .0)) in
+    search arith
 
 session-cases : (n : Numbers) (s : Session) (live : Bool) → n .serial ≤ noneLeft → s .live ≤ 1 → pick live (sessionSound n s) (sessionBlank s) ≡ true → SessionSized s → sessionFormat .Good s
 session-cases n s true h k e z = live-fits n s h k e z
@@ -219,16 +222,13 @@ box-count l e z =
 pub good-layout : (l : Layout) → layoutSound l ≡ true → length (l .counts) ≡ 6 → layoutFormat .Good l
 unfolding layoutFormat
 good-layout l e z =
-    let t = layout-facts l e in (
-      omega (arith, t .kind),
-      (
-        omega (arith, t .lines .1),
+    let t = layout-facts l e in
+    let counts =
         good-array byte 6 (l .counts) z
-            (each-join Byte (l .lines) (l .counts)
-            (each-told Byte (between 1 6) (λ x h. let most = between-true 1 6 x h .1 in omega arith) (take (l .lines) (l .counts)) (t .counts))
-            (zero-bytes (drop (l .lines) (l .counts)) (t .behind))),
-      ),
-    )
+        (each-join Byte (l .lines) (l .counts)
+        (each-told Byte (between 1 6) (λ x h. let most = between-true 1 6 x h .1 in omega arith) (take (l .lines) (l .counts)) (t .counts))
+        (zero-bytes (drop (l .lines) (l .counts)) (t .behind))) in
+    search arith
 
 -- Pictures and boxes.
 
@@ -247,13 +247,13 @@ good-box boxes n b h k e =
     let position = between-true 1 boxes (b .position) (t .0) .1 in
     let polarity = leb-true (b .polarity) 1 (t .1) in
     let picture = ltb-true (b .picture .0) (n .picture) (t .2) in
-    (omega arith, (omega arith, omega arith))
+    search arith
 
 pub good-no-box : (b : ImageBox) → boxBlank b ≡ true → boxFormat .Good b
 unfolding boxFormat pictureFormat
 good-no-box b e =
-    let v = zero-bytes (b .position ∷ b .polarity ∷ b .picture .0 ∷ []) e in
-    (v .0, (v .1 .0, omega (arith, v .1 .1 .0)))
+    let numbers = zero-bytes _ e in
+    search arith
 
 -- Films.
 
@@ -265,53 +265,25 @@ good-film n f h k own e z =
     let some = box-count (f .layout) (t .layout) (z .counts) in
     let orientation = leb-true (f .orientation) 1 (t .orientation) in
     let magnification = leb-true (f .magnification) 3 (t .magnification) in
-    let last = leb-true (f .first .0 + count) (n .serial) (t .last) in (
-      good-name n (f .name) h (t .name) (z .name),
-      (
-        own,
-        (
-          good-layout (f .layout) (t .layout) (z .counts),
-          (
-            omega arith,
-            (
-              omega arith,
-              (
-                omega (arith, some .0),
-                good-array boxFormat mostBoxes (f .boxes) (z .boxes)
-                    (each-join (boxFormat .Good) count (f .boxes)
-                    (each-told (boxFormat .Good) (boxSound count n) (λ b s. good-box count n b (some .1) k s) (take count (f .boxes)) (t .boxes))
-                    (each-told (boxFormat .Good) boxBlank good-no-box (drop count (f .boxes)) (t .behind))),
-              ),
-            ),
-          ),
-        ),
-      ),
-    )
+    let last = leb-true (f .first .0 + count) (n .serial) (t .last) in
+    let name = good-name n (f .name) h (t .name) (z .name) in
+    let layout = good-layout (f .layout) (t .layout) (z .counts) in
+    let boxes =
+        good-array boxFormat mostBoxes (f .boxes) (z .boxes)
+        (each-join (boxFormat .Good) count (f .boxes)
+        (each-told (boxFormat .Good) (boxSound count n) (λ b s. good-box count n b (some .1) k s) (take count (f .boxes)) (t .boxes))
+        (each-told (boxFormat .Good) boxBlank good-no-box (drop count (f .boxes)) (t .behind))) in
+    search arith
 
 pub good-no-film : (f : Film) → filmBlank f ≡ true → FilmSized f → filmFormat .Good f
 unfolding filmFormat serialFormat layoutFormat
 good-no-film f e z =
-    let values : List ℕ = f .session ∷ f .layout .kind ∷ f .layout .lines ∷ f .orientation ∷ f .magnification ∷ f .first .0 ∷ [] in
     let t = all-true _ e in
-    let v = zero-bytes values (t .1 .0) in (
-      good-no-name (f .name) (t .0) (z .name),
-      (
-        v .0,
-        (
-          (v .1 .0, (v .1 .1 .0, good-array byte 6 (f .layout .counts) (z .counts) (zero-bytes (f .layout .counts) (t .1 .1 .0)))),
-          (
-            v .1 .1 .1 .0,
-            (
-              v .1 .1 .1 .1 .0,
-              (
-                omega (arith, v .1 .1 .1 .1 .1 .0),
-                good-array boxFormat mostBoxes (f .boxes) (z .boxes) (each-told (boxFormat .Good) boxBlank good-no-box (f .boxes) (t .1 .1 .1 .0)),
-              ),
-            ),
-          ),
-        ),
-      ),
-    )
+    let numbers = zero-bytes _ (t .1 .0) in
+    let name = good-no-name (f .name) (t .0) (z .name) in
+    let counts = good-array byte 6 (f .layout .counts) (z .counts) (zero-bytes (f .layout .counts) (t .1 .1 .0)) in
+    let boxes = good-array boxFormat mostBoxes (f .boxes) (z .boxes) (each-told (boxFormat .Good) boxBlank good-no-box (f .boxes) (t .1 .1 .1 .0)) in
+    search arith
 
 pub good-shelf : (n : Numbers) (sessions : List Session) (shelf : Shelf) → length sessions ≤ 256 → n .serial ≤ noneLeft → n .picture ≤ noneLeft → shelfSound n sessions shelf ≡ true → ShelfSized shelf → shelfFormat .Good shelf
 unfolding shelfFormat filmsOf
@@ -336,20 +308,20 @@ unfolding entryFormat entrySound
 good-entry n x h k e z =
     let below : Picture → Bool = λ (p : Picture). ltb (p .0) (n .picture) in
     let t = all-true _ e in
-    let copies = between-true 1 99 (x .copies) (t .1 .0) .1 in (
-      good-array pictureFormat mostBoxes (x .pictures) (z .pictures) (each-told (pictureFormat .Good) below (λ p s. good-picture n p k s) (x .pictures) (t .0)),
-      (z .ticket, (omega arith, good-name n (x .film) h (t .1 .1 .0) (z .film))),
-    )
+    let pictures = good-array pictureFormat mostBoxes (x .pictures) (z .pictures) (each-told (pictureFormat .Good) below (λ p s. good-picture n p k s) (x .pictures) (t .0)) in
+    let copies = between-true 1 99 (x .copies) (t .1 .0) .1 in
+    let film = good-name n (x .film) h (t .1 .1 .0) (z .film) in
+    search arith
 
 pub good-no-entry : (x : Entry) → entryBlank x ≡ true → EntrySized x → entryFormat .Good x
 unfolding entryFormat
 good-no-entry x e z =
     let zero-picture : Picture → Bool = λ (p : Picture). eqb (p .0) 0 in
     let t = all-true _ e in
-    let v = zero-bytes (x .ticket ∷ x .copies ∷ []) (t .1 .0) in (
-      good-array pictureFormat mostBoxes (x .pictures) (z .pictures) (each-told (pictureFormat .Good) zero-picture good-no-picture (x .pictures) (t .0)),
-      (z .ticket, (v .1 .0, good-no-name (x .film) (t .1 .1 .0) (z .film))),
-    )
+    let pictures = good-array pictureFormat mostBoxes (x .pictures) (z .pictures) (each-told (pictureFormat .Good) zero-picture good-no-picture (x .pictures) (t .0)) in
+    let numbers = zero-bytes _ (t .1 .0) in
+    let film = good-no-name (x .film) (t .1 .1 .0) (z .film) in
+    search arith
 
 pub good-queue : (n : Numbers) (q : Queue) → n .serial ≤ noneLeft → n .picture ≤ noneLeft → queueSound n q ≡ true → QueueSized q → queueFormat .Good q
 unfolding queueFormat entriesOf

@@ -101,7 +101,7 @@ module _ (n m : Numbers) (later : Later n m) where
       let t = all-true _ e in
       all-holds _ (
         every-so (λ (p : Picture). ltb (p .0) (n .picture)) (λ (p : Picture). ltb (p .0) (m .picture)) (λ p. below-picture (p .0)) (x .pictures) (t .0),
-        (t .1 .0, (name-later (x .film) (t .1 .1 .0), tt)),
+        (t .1 .0, (name-later (x .film) (t .1 .1 .0), t .1 .1 .1)),
       )
 
   pub queue-later : (q : Queue) → queueSound n q ≡ true → queueSound m q ≡ true

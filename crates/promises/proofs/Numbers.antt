@@ -8,7 +8,7 @@ use native.Mathlib.Omega.{arith}
 use lib.Dec.{eqb}
 use lib.ListN.{length, getD, set}
 use lib.Seq.{getD-set-same}
-use borrow.Author.Tests.{ltb-false, eqb-false, eq-eqb, ne-eqb}
+use borrow.Author.Tests.{ltb-false, eqb-false, eq-eqb}
 use Rattle.choice.proofs.Picks.{Kept, pick-cases, both-second, clash}
 use Rattle.strike.specs.Service.{Call, start}
 use Rattle.strike.specs.Machine.{Records, step}
@@ -90,10 +90,6 @@ pub record Taken (before after : Numbers) (n : ℕ) : Type 0 where
   pub small : n < 4294967296
 
 module _ (k : Core) (sent : List ℕ) (l : Listing) where
-  -- a sent UID takes no serial
-  pub sent-name : (length sent ≡ 0 → ⊥) → nameFrom (k .numbers) sent .made .0 ≡ 0
-  sent-name h = rw (ne-eqb (length sent) 0 h)
-
   -- the serial of a session without a sent UID
   pub session-serial : length sent ≡ 0 → Kept (newSessionRules k sent l) → Taken (k .numbers) (sessionCreated k sent l .numbers) (theSession (sessionCreated k sent l) .name .made .0)
   unfolding sessionCreated

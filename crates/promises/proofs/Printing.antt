@@ -49,7 +49,7 @@ module _ (n : Numbers) (some : 1 ≤ n .picture) where
     unfolding entrySound entryOf
     entry-sound t f o e =
         let own : between 1 99 (sessionAt k (f .session) .copies) ≡ true = ap (λ i. between 1 99 (sessionAt k i .copies)) (only-place k f o) ∙ copies (film-live k f o) in
-        all-holds _ (pictures-sound f e, (own, (film-facts n f e .name, tt)))
+        all-holds _ (pictures-sound f e, (own, (film-facts n f e .name, search)))
 
     new-sound : (t : ℕ) (films : List Film) → every (hasSession (sessionsOf k)) films ≡ true → every (filmSound n) films ≡ true → every (entrySound n) (entriesFor k t films) ≡ true
     unfolding entriesFor every

@@ -56,55 +56,42 @@ all-zero n xs l e = all-alike 0 n xs l (each-zero xs e)
 
 -- What is blank is nothing.
 
-name-of : (made used : ℕ) (text : List ℕ) → made ≡ 0 → used ≡ 0 → text ≡ replicate 64 0 → _≡_ {A = Name} (record { made = serial made; used = used; text = text }) noName
-name-of made used text e f g = rw (e, f, g)
-
 blank-name : (name : Name) → nameBlank name ≡ true → NameSized name → name ≡ noName
 blank-name name e s =
     let t = all-true _ e in
-    name-of (name .made .0) (name .used) (name .text) (eqb-true (name .made .0) 0 (t .0)) (eqb-true (name .used) 0 (t .1 .0)) (all-zero 64 (name .text) s (t .1 .1 .0))
-
-box-of : (position polarity number : ℕ) → position ≡ 0 → polarity ≡ 0 → number ≡ 0 → _≡_ {A = ImageBox} (record { position = position; polarity = polarity; picture = picture number }) noBox
-box-of position polarity number e f g = rw (e, f, g)
+    let made = eqb-true (name .made .0) 0 (t .0) in
+    let used = eqb-true (name .used) 0 (t .1 .0) in
+    let text = all-zero 64 (name .text) s (t .1 .1 .0) in
+    let by-fields : _≡_ {A = Name} (record { made = serial (name .made .0); used = name .used; text = name .text }) noName = cc in
+    by-fields
 
 blank-box : (b : ImageBox) → boxBlank b ≡ true → b ≡ noBox
 blank-box b e =
-    let t = each-zero (b .position ∷ b .polarity ∷ b .picture .0 ∷ []) e in
-    box-of (b .position) (b .polarity) (b .picture .0) (t .0) (t .1 .0) (t .1 .1 .0)
-
-film-of : (name : Name) (session kind lines : ℕ) (counts : List ℕ) (orientation magnification first : ℕ) (boxes : List ImageBox) → name ≡ noName → session ≡ 0 → kind ≡ 0 → lines ≡ 0 → counts ≡ replicate 6 0 → orientation ≡ 0 → magnification ≡ 0 → first ≡ 0 → boxes ≡ replicate mostBoxes noBox → _≡_ {A = Film} (record { name = name; session = session; layout = record { kind = kind; lines = lines; counts = counts }; orientation = orientation; magnification = magnification; first = serial first; boxes = boxes }) noFilm
-film-of name session kind lines counts orientation magnification first boxes c d e f g h i j k = rw (c, d, e, f, g, h, i, j, k)
+    let numbers = each-zero _ e in
+    let by-fields : _≡_ {A = ImageBox} (record { position = b .position; polarity = b .polarity; picture = picture (b .picture .0) }) noBox = cc in
+    by-fields
 
 blank-film : (f : Film) → filmBlank f ≡ true → FilmSized f → f ≡ noFilm
 blank-film f e s =
     let t = all-true _ e in
-    let z = each-zero (f .session ∷ f .layout .kind ∷ f .layout .lines ∷ f .orientation ∷ f .magnification ∷ f .first .0 ∷ []) (t .1 .0) in
-    film-of (f .name) (f .session) (f .layout .kind) (f .layout .lines) (f .layout .counts) (f .orientation) (f .magnification) (f .first .0) (f .boxes)
-    (blank-name (f .name) (t .0) (s .name))
-    (z .0)
-    (z .1 .0)
-    (z .1 .1 .0)
-    (all-zero 6 (f .layout .counts) (s .counts) (t .1 .1 .0))
-    (z .1 .1 .1 .0)
-    (z .1 .1 .1 .1 .0)
-    (z .1 .1 .1 .1 .1 .0)
-    (all-alike noBox mostBoxes (f .boxes) (s .boxes) (each-told (λ (b : ImageBox). b ≡ noBox) boxBlank blank-box (f .boxes) (t .1 .1 .1 .0)))
+    let numbers = each-zero _ (t .1 .0) in
+    let name = blank-name (f .name) (t .0) (s .name) in
+    let counts = all-zero 6 (f .layout .counts) (s .counts) (t .1 .1 .0) in
+    let boxes = all-alike noBox mostBoxes (f .boxes) (s .boxes) (each-told (λ (b : ImageBox). b ≡ noBox) boxBlank blank-box (f .boxes) (t .1 .1 .1 .0)) in
+    let by-fields : _≡_ {A = Film} (record { name = f .name; session = f .session; layout = record { kind = f .layout .kind; lines = f .layout .lines; counts = f .layout .counts }; orientation = f .orientation; magnification = f .magnification; first = serial (f .first .0); boxes = f .boxes }) noFilm = cc in
+    by-fields
 
 no-picture : (p : Picture) → eqb (p .0) 0 ≡ true → p ≡ picture 0
 no-picture p e = ap picture (eqb-true (p .0) 0 e)
 
-entry-of : (pictures : List Picture) (ticket copies : ℕ) (film : Name) → pictures ≡ replicate mostBoxes (picture 0) → ticket ≡ 0 → copies ≡ 0 → film ≡ noName → _≡_ {A = Entry} (record { pictures = pictures; ticket = ticket; copies = copies; film = film }) noEntry
-entry-of pictures ticket copies film e f g h = rw (e, f, g, h)
-
 blank-entry : (e : Entry) → entryBlank e ≡ true → EntrySized e → e ≡ noEntry
 blank-entry e h s =
     let t = all-true _ h in
-    let z = each-zero (e .ticket ∷ e .copies ∷ []) (t .1 .0) in
-    entry-of (e .pictures) (e .ticket) (e .copies) (e .film)
-    (all-alike (picture 0) mostBoxes (e .pictures) (s .pictures) (each-told (λ (p : Picture). p ≡ picture 0) (λ (p : Picture). eqb (p .0) 0) no-picture (e .pictures) (t .0)))
-    (z .0)
-    (z .1 .0)
-    (blank-name (e .film) (t .1 .1 .0) (s .film))
+    let numbers = each-zero _ (t .1 .0) in
+    let pictures = all-alike (picture 0) mostBoxes (e .pictures) (s .pictures) (each-told (λ (p : Picture). p ≡ picture 0) (λ (p : Picture). eqb (p .0) 0) no-picture (e .pictures) (t .0)) in
+    let film = blank-name (e .film) (t .1 .1 .0) (s .film) in
+    let by-fields : _≡_ {A = Entry} (record { pictures = e .pictures; ticket = e .ticket; copies = e .copies; film = e .film }) noEntry = cc in
+    by-fields
 
 -- The shelf.
 

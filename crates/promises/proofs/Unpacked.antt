@@ -47,15 +47,15 @@ name-long name g = g .1 .1 .0
 
 session-long : (s : Session) → sessionFormat .Good s → SessionSized s
 unfolding sessionFormat
-session-long s g = record { name = name-long (s .name) (g .1 .0); label = g .1 .1 .1 .1 .1 .1 .1 .0 }
+session-long s g = record { name = name-long (s .name) (search); label = search }
 
 film-long : (f : Film) → filmFormat .Good f → FilmSized f
 unfolding filmFormat layoutFormat
-film-long f g = record { name = name-long (f .name) (g .0); counts = g .1 .1 .0 .1 .1 .0; boxes = g .1 .1 .1 .1 .1 .1 .0 }
+film-long f g = record { name = name-long (f .name) (search); counts = search; boxes = search }
 
 entry-long : (x : Entry) → entryFormat .Good x → EntrySized x
 unfolding entryFormat
-entry-long x g = record { pictures = g .0 .0; ticket = g .1 .0; film = name-long (x .film) (g .1 .1 .1) }
+entry-long x g = record { pictures = search; ticket = search; film = name-long (x .film) (search) }
 
 shelf-long : (shelf : Shelf) → shelfFormat .Good shelf → ShelfSized shelf
 unfolding shelfFormat
@@ -77,7 +77,7 @@ queue-long q g =
 
 numbers-long : (n : Numbers) → numbersFormat .Good n → NumbersSized n
 unfolding numbersFormat
-numbers-long n g = record { root = g .1 .0 .0; ticket = g .1 .1 .1 .1 }
+numbers-long n g = search
 
 sessions-long : (sessions : List Session) → array mostSessions sessionFormat .Good sessions → SessionsSized sessions
 sessions-long sessions g =

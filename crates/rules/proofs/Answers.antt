@@ -20,7 +20,7 @@ use Rattle.rules.specs.Responses.{Reply}
 use Rattle.rules.specs.Calls.{entryBytes}
 use Rattle.rules.specs.Outcomes.{Lent, Feeding, reportBytes, numberOf, inputIn, inputHeld, fedTo, Taking, nothingTaken, took, orUnchanged}
 use Rattle.rules.proofs.Book.{theBook}
-use Rattle.rules.proofs.Stage.{nothingLive, Example, gives, AllHold}
+use Rattle.rules.proofs.Stage.{nothingLive, entryOf, Example, gives, AllHold}
 
 -- a reply with 98 bytes of command and 300 of data set
 abbrev replyWith : Note → Reply
@@ -31,7 +31,7 @@ noted = PictureAt 0x01020304 0x05060708 0x090A0B0C
 
 -- pictures 1 to 36, ticket 4660, copies 99
 abbrev entry : Entry
-entry = record { pictures = map picture (from 1 36); ticket = 0x1234; copies = 99; film = madeName 100 }
+entry = entryOf (map picture (from 1 36)) 0x1234 99 (madeName 100)
 
 abbrev entryWritten : List ℕ
 entryWritten = entryBytes (nothingLive .numbers) entry

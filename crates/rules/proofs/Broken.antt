@@ -24,7 +24,7 @@ use Rattle.rules.specs.Records.{serial, picture, noName, madeName, sentN
 use Rattle.rules.specs.Sound.{nameSound, numbersSound, sessionSound, sessionBlank, layoutSound, filmSound, filmBlank, shelfSound, entrySound, entryBlank, queueSound, uidsApart, openedSound, inputSound, sound}
 use Rattle.rules.proofs.Book.{theBook}
 use Rattle.rules.proofs.Messages.{echo}
-use Rattle.rules.proofs.Stage.{Example, gives, AllHold}
+use Rattle.rules.proofs.Stage.{entryOf, Example, gives, AllHold}
 
 abbrev each : {A : Type 0} → (A → Bool) → List A → List ℕ
 each test xs = map (λ x. pick (test x) 1 0) xs
@@ -111,11 +111,11 @@ elsewhere i f = record { name = f .name; session = i; layout = f .layout; orient
 
 -- An entry.
 
-abbrev entryOf : ℕ → ℕ → ℕ → Name → Entry
-entryOf n ticket copies name = record { pictures = filledTo 36 (picture 0) (picture n ∷ []); ticket = ticket; copies = copies; film = name }
+abbrev entryWith : ℕ → ℕ → ℕ → Name → Entry
+entryWith n = entryOf (filledTo 36 (picture 0) (picture n ∷ []))
 
 abbrev entry : Entry
-entry = entryOf 2 65535 99 (madeName 104)
+entry = entryWith 2 65535 99 (madeName 104)
 
 abbrev shelfOf : ℕ → List Film → Shelf
 shelfOf count films = record { count = count; films = films }
@@ -171,8 +171,8 @@ parts =
     -- by its own place, whatever the others hold
     ∷ gives (each (shelfSound numbers (noSession ∷ session ∷ [])) (shelved (elsewhere 1 film ∷ []) ∷ shelved (film ∷ []) ∷ shelved (elsewhere 2 film ∷ []) ∷ [])) (1 ∷ 0 ∷ 0 ∷ [])
     -- an entry: pictures below the next, copies, a name
-    ∷ gives (each (entrySound numbers) (entry ∷ entryOf 0 0 1 (madeName 104) ∷ entryOf 3 0 1 (madeName 104) ∷ entryOf 2 0 0 (madeName 104) ∷ entryOf 2 0 100 (madeName 104) ∷ entryOf 2 0 1 (madeName 107) ∷ [])) (1 ∷ 1 ∷ none 4)
-    ∷ gives (each entryBlank (noEntry ∷ entryOf 1 0 0 noName ∷ entryOf 0 1 0 noName ∷ entryOf 0 0 1 noName ∷ entryOf 0 0 0 (madeName 1) ∷ [])) (1 ∷ none 4)
+    ∷ gives (each (entrySound numbers) (entry ∷ entryWith 0 0 1 (madeName 104) ∷ entryWith 3 0 1 (madeName 104) ∷ entryWith 2 0 0 (madeName 104) ∷ entryWith 2 0 100 (madeName 104) ∷ entryWith 2 0 1 (madeName 107) ∷ [])) (1 ∷ 1 ∷ none 4)
+    ∷ gives (each entryBlank (noEntry ∷ entryWith 1 0 0 noName ∷ entryWith 0 1 0 noName ∷ entryWith 0 0 1 noName ∷ entryWith 0 0 0 (madeName 1) ∷ [])) (1 ∷ none 4)
     -- at most 16 of them, each sound, blanks behind them
     ∷ gives (each (queueSound numbers) (queued (entry ∷ []) ∷ queued (replicate 16 entry) ∷ queued (replicate 17 entry) ∷ queued (noEntry ∷ []) ∷ queueOf 0 (entry ∷ []) ∷ [])) (1 ∷ 1 ∷ none 3)
     ∷ []

@@ -10,6 +10,9 @@ use Rattle.choice.specs.Pick.{pick}
 use Rattle.choice.specs.Rules.{firstBroken}
 use Rattle.headers.specs.declared.Syntax.the-variants.{Implicit}
 use Rattle.strike.specs.Service.{Result, fails, does}
+use Rattle.rules.specs.declared.Name.{Name}
+use Rattle.rules.specs.declared.Picture.{Picture}
+use Rattle.rules.specs.declared.Entry.{Entry}
 use Rattle.rules.specs.declared.Core.{Core}
 use Rattle.rules.specs.declared.ImageBox.{ImageBox}
 use Rattle.rules.specs.declared.Film.{Film}
@@ -123,6 +126,9 @@ noPictures = withNumbersOf 107 4294967296 filmLive
 
 abbrev pub queueFull : Core
 queueFull = withQueue (replicate 16 noEntry) filmLive
+
+abbrev pub entryOf : List Picture → ℕ → ℕ → Name → Entry
+entryOf pictures ticket copies film = record { pictures = pictures; ticket = ticket; copies = copies; film = film }
 
 abbrev pub filledBox : ℕ → ℕ → ImageBox
 filledBox position n = record { position = position; polarity = 0; picture = record { 0 = n } }

@@ -11,7 +11,7 @@ use Rattle.strike.specs.Machine.{Answer, Records, step}
 use Rattle.strike.specs.Messages as messages
 use Rattle.strike.specs.Messages.{Count, countAfter, Event, struck, without, callsOf, answersOf, strikeable, roleOf, eventOf, historyFrom, history, answers, after}
 use Rattle.strike.proofs.Fate.{strike-out}
-use Rattle.strike.proofs.Refine.{history-answers}
+use Rattle.strike.proofs.History.{history-answers}
 use Rattle.rules.specs.Responses.{Reply}
 use Rattle.rules.specs.Calls.{handed}
 use Rattle.runs.specs.Host.{Kept}

@@ -3,6 +3,6 @@ pub mod Opened
 pub mod Fate
 pub mod Collecting
 pub mod Lies
-pub mod Refine
+pub mod History
 pub mod Fakes
 pub mod Toy

@@ -4,7 +4,7 @@
 use mathlib.Core.Path.{_≡_, refl}
 use mathlib.Core.Bool.{Bool, true, false}
 use mathlib.Core.Option.{none, some}
-use mathlib.Core.List.{List, [], _∷_, map, map-id}
+use mathlib.Core.List.{List, [], _∷_, map}
 use Prim.Native.Nat.{ℕ, suc, _+_}
 use lib.Dec.{eqb}
 use lib.ListN.{length, getD}
@@ -21,7 +21,6 @@ use Rattle.strike.specs.Messages.{Event, without, callsOf}
 use Rattle.strike.specs.Messages.{succeeded, failed, wasDropped, wasCutOff, unsettled, strikeable, fateOf}
 use Rattle.strike.specs.Messages.{history, answers, after}
 use Rattle.strike.proofs.Opened.{theMachine, theMessages}
-use Rattle.strike.proofs.Refine.{acts, Right, SameOf, strike-out-of}
 use Rattle.strike.proofs.Fakes.{dropsAll, failsAll, oneReply, storesNone, storesFirst}
 
 -- is it open, how long is the message buffer, what has been sold, and how often was that asked
@@ -138,17 +137,15 @@ messageAt s (aside n) message = message
 abbrev act : Till → Call shopHanded → Till
 act t c = record { records = step shop (t .records) c .records; message = messageAt (t .records) c (t .message) }
 
-abbrev reply : Till → Call shopHanded → Answer ℕ ℕ
-reply t c = step shop (t .records) c .answer
-
-right : Right shop Till (Call shopHanded) (λ t. Unit {0}) (λ t. t .records) (λ c. c) act reply
-right = record { right-reply = λ t c g. refl; right-view = λ t c g. refl; right-good = λ t c g. tt }
-
 abbrev till : Till
 till = record { records = shut; message = 9 ∷ 9 ∷ 9 ∷ 9 ∷ [] }
 
+abbrev actsAll : Till → List (Call shopHanded) → Till
+actsAll t [] = t
+actsAll t (c ∷ cs) = actsAll (act t c) cs
+
 abbrev ends : List (Call shopHanded) → Till
-ends cs = acts shop Till (Call shopHanded) (λ t. Unit {0}) (λ t. t .records) (λ c. c) act reply till cs
+ends = actsAll till
 
 -- a message, and fragments after a close and a start
 abbrev closing : List (Call shopHanded)
@@ -207,7 +204,7 @@ record Computed : Type 0 where
   stores-first : answers (storesFirst shop) fake twice ≡ done ∷ success 2 noData ∷ success 3 noData ∷ told 2 ∷ []
 
 computed : Computed
-unfolding theMachine theMessages acts
+unfolding theMachine theMessages
 computed =
     record {
       all-answers = refl;
@@ -227,13 +224,3 @@ computed =
       stores-none = refl;
       stores-first = refl;
     }
-
-both-true : (a b : Bool) → both a b ≡ true → a ≡ true
-both-true true b h = refl
-both-true false b h = h
-
--- the theorem, at this run
-till-struck-out : SameOf shop Till (Call shopHanded) (λ t. Unit {0}) (λ t. t .records) (λ c. c) act reply till calls (callsOf left) (history shop shut calls) left
-till-struck-out =
-    strike-out-of shop Till (Call shopHanded) (λ t. Unit {0}) (λ t. t .records) (λ c. c) act reply right till tt calls chosen (λ i h. both-true _ _ h)
-    (callsOf left) (map-id (callsOf left))
