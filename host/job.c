@@ -1,5 +1,6 @@
 /* A host to start from: `job NUMBERS` serves two consoles, prints the films that they queue, and is started anew
- * between the two. NUMBERS is the file in which the next numbers outlive a restart.
+ * between the two. NUMBERS is the file in which the next numbers outlive a restart. The exit status is 0 where both films
+ * were printed, 1 where one was not, 2 where the arguments are wrong.
  *
  * The order of calls: start once; for each association open, feed for each fragment, close; take whenever the imager is
  * ready. docs/HOST.md has each number returned, and what to do. */
@@ -224,40 +225,45 @@ static void print_film(const uint8_t *entry)
     draw_film(entry);
 }
 
-/* An empty queue is tried again when a note tells of films queued. */
-static void print_queue(void)
+/* How many films were printed. An empty queue is tried again when a note tells of films queued. */
+static unsigned print_queue(void)
 {
     uint8_t entry[GATEWAY_ENTRY];
     uint32_t n;
+    unsigned films = 0;
     while ((n = gateway_take(records, sizeof records, entry, sizeof entry)) == GATEWAY_DONE) {
         print_film(entry);
         free_unnamed(records);
+        films++;
     }
     if (n != GATEWAY_QUEUE_EMPTY)
         stop("take", n);
+    return films;
 }
 
-static void job(uint32_t syntax, uint8_t context, unsigned columns, unsigned rows, unsigned pictures)
+/* Serves a console that wants one film; false where that was not printed. */
+static bool job(uint32_t syntax, uint8_t context, unsigned columns, unsigned rows, unsigned pictures)
 {
     struct console console = new_console(syntax, context, PIECE, columns, rows, pictures);
     serve(&console);
     free_unnamed(records);
-    print_queue();
+    unsigned films = print_queue();
     free_console(&console);
+    return films == 1;
 }
 
 int main(int argc, char **argv)
 {
-    if (argc != 2) {
-        fprintf(stderr, "usage: job NUMBERS\n");
+    if (argc != 2 || argv[1][0] == '-') {
+        fprintf(stderr, "usage: job NUMBERS (the file in which the next numbers outlive a restart)\n");
         return 2;
     }
     numbers_file = argv[1];
     start();
-    job(GATEWAY_IMPLICIT, 1, 2, 2, 4);
+    bool first = job(GATEWAY_IMPLICIT, 1, 2, 2, 4);
     puts("\nThe power goes and comes back: of the records nothing is left.\n");
     memset(records, 0xEE, sizeof records);
     start();
-    job(GATEWAY_EXPLICIT, 3, 3, 1, 2);
-    return 0;
+    bool second = job(GATEWAY_EXPLICIT, 3, 3, 1, 2);
+    return first && second ? 0 : 1;
 }

@@ -195,8 +195,12 @@ static void call(char *line)
         no_call("too many words");
 }
 
-int main(void)
+int main(int argc, char **argv)
 {
+    if (argc != 1) {
+        fprintf(stderr, "usage: %s (without arguments: calls are read from standard input, a line each)\n", argv[0]);
+        return 2;
+    }
     char *line = NULL;
     size_t room = 0;
     ssize_t length;

@@ -1,29 +1,47 @@
 # To be sourced. Archives of `rt staticlib` are for x86-64: on another machine a cross compiler builds the programs that
 # link them and an emulator runs them. They are Debian's, and installed where they are missing.
+. "${BASH_SOURCE[0]%/*}/archive.sh"
 if [ "$(uname -m)" = x86_64 ]; then
-    x86_64_cc=(gcc)
+    x86_64_tools=
+    x86_64_link=()
     x86_64_run=()
 else
-    x86_64_cc=(x86_64-linux-gnu-gcc -static)
+    x86_64_tools=x86_64-linux-gnu-
+    x86_64_link=(-static)
     x86_64_run=(qemu-x86_64)
-    if ! command -v "${x86_64_cc[0]}" >/dev/null || ! command -v "${x86_64_run[0]}" >/dev/null; then
+    if ! command -v "${x86_64_tools}g++" >/dev/null || ! command -v "${x86_64_run[0]}" >/dev/null; then
         apt-get update -qq
-        apt-get install -y -qq gcc-x86-64-linux-gnu libc6-dev-amd64-cross qemu-user >/dev/null
+        apt-get install -y -qq g++-x86-64-linux-gnu libc6-dev-amd64-cross qemu-user >/dev/null
     fi
 fi
 
-# The archive of a crate in target/staticlib: proved and built where it is missing, or older than a file of the crates.
-archive() {
-    local built=target/staticlib/lib$1.a said
-    if [ -f "$built" ] && [ -z "$(find crates crates.txt -newer "$built" -print -quit)" ]; then
-        return
-    fi
-    echo "proving and building $built, which takes minutes where nothing is proved yet" >&2
-    said=$(rt staticlib "$1" 2>&1) || { echo "$said" >&2; return 1; }
-}
+# A compiler that is missing is told of at once, and not after minutes of proving.
+if ! command -v "${x86_64_tools}gcc" >/dev/null; then
+    echo "$0: ${x86_64_tools}gcc is not on the path; it compiles the programs in C. On Debian: apt-get install gcc libc6-dev" >&2
+    exit 1
+fi
 
 # Compiles strictly: options, sources, archives, -o program.
-cc_x86_64() { "${x86_64_cc[@]}" -std=c11 -D_POSIX_C_SOURCE=200809L -Wall -Wextra -Werror "$@"; }
+cc_x86_64() {
+    "${x86_64_tools}gcc" ${x86_64_link[@]+"${x86_64_link[@]}"} -std=c11 -D_POSIX_C_SOURCE=200809L -Wall -Wextra -Werror "$@"
+}
+
+# What a program of host/ is built of, by host/programs.txt: its sources, and its archives in the folder given.
+parts_of() {
+    awk -v program="$1:" -v folder="$2" \
+        '$1 == program { for (i = 2; i <= NF; i++) print ($i ~ /\.a$/ ? folder : "host") "/" $i }' host/programs.txt
+}
+
+# Builds a program of host/, its archives too: its name, where it goes to, options.
+build_host() {
+    local program=$1 output=$2 parts part
+    shift 2
+    mapfile -t parts < <(parts_of "$program" target/staticlib)
+    for part in "${parts[@]}"; do
+        [[ $part != *.a ]] || { part=${part##*/lib} && archive "${part%.a}"; }
+    done
+    cc_x86_64 -O2 "$@" "${parts[@]}" -o "$output"
+}
 
 # Runs a program with its arguments.
 run_x86_64() { ${x86_64_run[@]+"${x86_64_run[@]}"} "$@"; }
