@@ -26,6 +26,15 @@
 extern "C" {
 #endif
 
+/* The version of this header (CHANGELOG.md), and, in the archive of a release, that of the archive and the commit that it
+ * was packed from. A host is compiled and linked with the same: where GATEWAY_VERSION and gateway_version differ, places
+ * in the records may. */
+#define GATEWAY_VERSION_MAJOR 0
+#define GATEWAY_VERSION_MINOR 4
+#define GATEWAY_VERSION_PATCH 0
+#define GATEWAY_VERSION "0.4.0"
+extern const char gateway_version[], gateway_commit[];
+
 /* How many bytes each buffer has at least; the records have GATEWAY_RECORDS. More may be lent: bytes past those written
  * stay. */
 #define GATEWAY_COMMAND 256 /* a response's command set */

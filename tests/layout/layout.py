@@ -2,6 +2,7 @@
 import re
 
 BOUND = re.compile(r"^abbrev pub (\w+) : ℕ\n\1 = (.+)$", re.M)
+CODES = re.compile(r"^abbrev pub (\w+) : List \(List ℕ\)\n\1 = (.+)$", re.M)
 FORMAT = re.compile(r"^unfoldable pub (\w+)Format : Format \w+\n\1Format =(.*?)\n(?=\n|\Z)", re.M | re.S)
 
 
@@ -18,7 +19,8 @@ class Field:
 class Layout:
     def __init__(self, top):
         texts = [(top / f"crates/{name}.antt").read_text(encoding="utf-8")
-                 for name in ("strike/specs/Machine", "rules/specs/Bounds", "rules/specs/Layout")]
+                 for name in ("strike/specs/Machine", "rules/specs/Bounds", "rules/specs/Values", "rules/specs/Layout")]
+        self.codes = dict(CODES.findall(texts[2]))
         self.sums = {name: said for text in texts for name, said in BOUND.findall(text)}
         self.formats = {name: self.parsed(body) for name, body in FORMAT.findall(texts[-1])}
 
@@ -28,6 +30,10 @@ class Layout:
         if not re.fullmatch(r"[\d+* ()]+", spelled):
             raise ValueError(f"no sum: {text}")
         return eval(spelled)
+
+    def texts(self, name):
+        """The texts of a list of codes, in their order."""
+        return re.findall(r'chars "([^"]*)"', self.codes[name])
 
     @staticmethod
     def parsed(body):
