@@ -1,0 +1,34 @@
+"""The commands of host/ that a document shows, and what it says that they print."""
+import subprocess
+
+
+def shown(text):
+    """Each block whose first line is a command of host/, with the lines behind it."""
+    blocks = []
+    for part in text.split("\n\n"):
+        lines = part.split("\n")
+        if all(line.startswith("    ") for line in lines) and lines[0].startswith("    host/"):
+            blocks.append((lines[0].split(), [line[4:].rstrip() for line in lines[1:]]))
+    return blocks
+
+
+def agrees(wanted, printed):
+    """Whether the lines wanted are those printed."""
+    if not wanted:
+        return not printed
+    if wanted[0] == "..":
+        return any(agrees(wanted[1:], printed[i:]) for i in range(len(printed) + 1))
+    return bool(printed) and wanted[0] == printed[0] and agrees(wanted[1:], printed[1:])
+
+
+def try_document(top, path):
+    """Runs each command that a document shows below `top`: what is wrong with it, None where nothing is."""
+    blocks = shown((top / path).read_text(encoding="utf-8"))
+    yield None if blocks else f"{path} shows no command of host/"
+    for words, wanted in blocks:
+        done = subprocess.run(words, cwd=top, text=True, capture_output=True, check=False)
+        printed = [line.rstrip() for line in done.stdout.splitlines()]
+        if agrees(wanted, printed):
+            yield None
+        else:
+            yield "\n".join([f"{' '.join(words)} prints", *printed, f"and {path} says", *wanted])

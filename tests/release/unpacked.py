@@ -1,0 +1,70 @@
+"""`unpacked.py PACKAGE`: the documents of an unpacked release hold there. Each link leads to a file and a heading of it, each
+command in a code block is one of it or is marked as the repository's, what docs/HOST.md shows is printed, and RELEASE lists every
+file with its size. Ends in 'N passed, 0 failed'."""
+import os
+import re
+import sys
+from pathlib import Path
+
+sys.dont_write_bytecode = True
+TOP = Path(__file__).resolve().parents[2]
+sys.path[:0] = [str(TOP / "tests/documents"), str(TOP / "tests/host")]
+
+from document import Document
+from shown import try_document
+
+PACKAGE = Path(sys.argv[1]).resolve()
+MARK = "*In the repository:*"
+
+
+def try_links(path, document):
+    for line, target in document.links():
+        name, _, anchor = target.partition("#")
+        to = (path.parent / name).resolve() if name else path
+        if re.match(r"[a-z]+:", target):
+            continue
+        if not to.is_relative_to(PACKAGE) or not to.exists():
+            yield f"{path}:{line}: no file {target}"
+        else:
+            heading = not anchor or anchor in Document(to.read_text(encoding="utf-8")).anchors()
+            yield None if heading else f"{path}:{line}: no heading {target}"
+
+
+def marked(lines, number):
+    """Whether the last line of prose before a block says that it is the repository's."""
+    above = [line for line in lines[:number - 1] if line.strip() and not line.startswith(("    ", "```"))]
+    return bool(above) and above[-1] == MARK
+
+
+def try_commands(path, text, document):
+    for line, words in document.commands():
+        known = words[0].startswith("./") or (TOP / words[0]).is_file() if "/" in words[0] else words[0] == "rt"
+        if not known or marked(text.splitlines(), line):
+            continue
+        yield None if os.access(PACKAGE / words[0], os.X_OK) else f"{path}:{line}: no command {words[0]}, and it is not marked"
+
+
+def try_documents():
+    for path in sorted(PACKAGE.rglob("*.md")):
+        text = path.read_text(encoding="utf-8")
+        document = Document(text)
+        yield from try_links(path, document)
+        yield from try_commands(path, text, document)
+
+
+def try_list():
+    listed = {name: int(size) for size, name in re.findall(r"^ *(\d+)  (\S+)$", (PACKAGE / "RELEASE").read_text(encoding="utf-8"), re.M)}
+    there = {str(path.relative_to(PACKAGE)): path.stat().st_size for path in PACKAGE.rglob("*") if path.is_file()}
+    for name in sorted(listed.keys() | there.keys() - {"RELEASE", "SHA256SUMS"}):
+        yield None if listed.get(name) == there.get(name) else f"RELEASE: {name} has {listed.get(name)} bytes, and is {there.get(name)}"
+
+
+def main():
+    results = [*try_documents(), *try_list(), *try_document(PACKAGE, "docs/HOST.md"), *try_document(PACKAGE, "README.md")]
+    wrong = [one for one in results if one]
+    print("\n".join([f"release: {one}" for one in wrong] + [f"{len(results) - len(wrong)} passed, {len(wrong)} failed"]))
+    return 1 if wrong else 0
+
+
+if __name__ == "__main__":
+    sys.exit(main())
