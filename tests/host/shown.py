@@ -8,7 +8,7 @@ def shown(text):
     for part in text.split("\n\n"):
         lines = part.split("\n")
         if all(line.startswith("    ") for line in lines) and lines[0].startswith("    host/"):
-            blocks.append((lines[0].split(), [line[4:].rstrip() for line in lines[1:]]))
+            blocks.append((lines[0].strip(), [line[4:].rstrip() for line in lines[1:]]))
     return blocks
 
 
@@ -21,14 +21,13 @@ def agrees(wanted, printed):
     return bool(printed) and wanted[0] == printed[0] and agrees(wanted[1:], printed[1:])
 
 
-def try_document(top, path):
-    """Runs each command that a document shows below `top`: what is wrong with it, None where nothing is."""
-    blocks = shown((top / path).read_text(encoding="utf-8"))
-    yield None if blocks else f"{path} shows no command of host/"
-    for words, wanted in blocks:
-        done = subprocess.run(words, cwd=top, text=True, capture_output=True, check=False)
-        printed = [line.rstrip() for line in done.stdout.splitlines()]
-        if agrees(wanted, printed):
-            yield None
-        else:
-            yield "\n".join([f"{' '.join(words)} prints", *printed, f"and {path} says", *wanted])
+def try_documents(top):
+    """Runs each command that a document of a folder shows, in that folder: what is wrong with it, None where nothing is."""
+    for path in [top / "README.md", *sorted((top / "docs").glob("*.md"))]:
+        for command, wanted in shown(path.read_text(encoding="utf-8")):
+            done = subprocess.run(["bash", "-c", command], cwd=top, text=True, capture_output=True, check=False)
+            printed = [line.rstrip() for line in done.stdout.splitlines()]
+            if agrees(wanted, printed):
+                yield None
+            else:
+                yield "\n".join([f"{command} prints", *printed, done.stderr, f"and {path.relative_to(top)} says", *wanted])

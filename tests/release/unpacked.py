@@ -1,6 +1,6 @@
 """`unpacked.py PACKAGE`: the documents of an unpacked release hold there. Each link leads to a file and a heading of it, each
-command in a code block is one of it or is marked as the repository's, what docs/HOST.md shows is printed, and RELEASE lists every
-file with its size. Ends in 'N passed, 0 failed'."""
+command in a code block is one of it or is marked as the repository's, what is shown is printed, and RELEASE lists every file with
+its size. Ends in 'N passed, 0 failed'."""
 import os
 import re
 import sys
@@ -11,7 +11,7 @@ TOP = Path(__file__).resolve().parents[2]
 sys.path[:0] = [str(TOP / "tests/documents"), str(TOP / "tests/host")]
 
 from document import Document
-from shown import try_document
+from shown import try_documents as try_shown
 
 PACKAGE = Path(sys.argv[1]).resolve()
 MARK = "*In the repository:*"
@@ -60,7 +60,7 @@ def try_list():
 
 
 def main():
-    results = [*try_documents(), *try_list(), *try_document(PACKAGE, "docs/HOST.md"), *try_document(PACKAGE, "README.md")]
+    results = [*try_documents(), *try_list(), *try_shown(PACKAGE)]
     wrong = [one for one in results if one]
     print("\n".join([f"release: {one}" for one in wrong] + [f"{len(results) - len(wrong)} passed, {len(wrong)} failed"]))
     return 1 if wrong else 0
