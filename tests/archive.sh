@@ -30,8 +30,9 @@ crates_up_to() {
 minutes() { echo "$(($1 / 60)) min $(($1 % 60)) s"; }
 
 # Tells how many crates are proved, which are being proved, and how long it took so far: where that changes, and every 20
-# seconds. rt has a log of each crate that it has begun. It ends with the shell that started it.
+# seconds. rt has a log of each crate that it has begun. It runs beside the shell that started it, and ends with it.
 tell_progress() {
+    set +e # find and grep fail where nothing is begun or proved yet
     local since=$1 crate=$2 all=$3 logs proved now before='' told_at=0
     while sleep 1 && kill -0 $$ 2>/dev/null; do
         logs=$(find target/log -name '*.out' -newer "$since" 2>/dev/null | sort)
