@@ -10,8 +10,11 @@ else
     x86_64_link=(-static)
     x86_64_run=(qemu-x86_64)
     if ! command -v "${x86_64_tools}g++" >/dev/null || ! command -v "${x86_64_run[0]}" >/dev/null; then
-        apt-get update -qq
-        apt-get install -y -qq g++-x86-64-linux-gnu libc6-dev-amd64-cross qemu-user >/dev/null
+        packages='g++-x86-64-linux-gnu libc6-dev-amd64-cross qemu-user'
+        if ! apt-get update -qq || ! apt-get install -y -qq $packages >/dev/null; then
+            echo "$0: Debian's packages $packages are needed on this machine, and could not be installed" >&2
+            exit 1
+        fi
     fi
 fi
 
