@@ -36,12 +36,15 @@ def marked(lines, number):
     return bool(above) and above[-1] == MARK
 
 
+def is_command(word):
+    """Whether the first word of a line in a code block is a command of the repository or of the package."""
+    return word == "rt" or ("/" in word and any((folder / word).is_file() for folder in (TOP, PACKAGE)))
+
+
 def try_commands(path, text, document):
     for line, words in document.commands():
-        known = words[0].startswith("./") or (TOP / words[0]).is_file() if "/" in words[0] else words[0] == "rt"
-        if not known or marked(text.splitlines(), line):
-            continue
-        yield None if os.access(PACKAGE / words[0], os.X_OK) else f"{path}:{line}: no command {words[0]}, and it is not marked"
+        if is_command(words[0]) and not marked(text.splitlines(), line):
+            yield None if os.access(PACKAGE / words[0], os.X_OK) else f"{path}:{line}: no command {words[0]}, and it is not marked"
 
 
 def try_documents():
