@@ -1,6 +1,6 @@
 /* A host to start from: `job NUMBERS` serves two consoles, prints the films that they queue, and is started anew
- * between the two. NUMBERS is the file in which the next numbers outlive a restart. The exit status is 0 where both films
- * were printed, 1 where one was not, 2 where the arguments are wrong.
+ * between the two. NUMBERS is the file in which the next numbers outlive a restart. The exit status is 0 where both
+ * films were printed, 1 where one was not, 2 where the arguments are wrong.
  *
  * The order of calls: start once; for each association open, feed for each fragment, close; take whenever the imager is
  * ready. docs/HOST.md has each number returned, and what to do. */

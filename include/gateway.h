@@ -26,9 +26,9 @@
 extern "C" {
 #endif
 
-/* The version of this header (CHANGELOG.md), and, in the archive of a release, that of the archive and the commit that it
- * was packed from. A host is compiled and linked with the same: where GATEWAY_VERSION and gateway_version differ, places
- * in the records may. */
+/* The version of this header (CHANGELOG.md), and, in the archive of a release, that of the archive and the commit that
+ * it was packed from. A host is compiled and linked with the same: where GATEWAY_VERSION and gateway_version differ,
+ * places in the records may. */
 #define GATEWAY_VERSION_MAJOR 0
 #define GATEWAY_VERSION_MINOR 4
 #define GATEWAY_VERSION_PATCH 0

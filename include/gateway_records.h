@@ -22,7 +22,7 @@ enum {
 
     /* In a name, the UID of a session or a film. A made one is the root, a dot and the serial. */
     GATEWAY_NAME_SERIAL = 0, /* 0 where the UID was sent */
-    GATEWAY_NAME_LENGTH = GATEWAY_NAME_SERIAL + GATEWAY_SERIAL_BYTES, /* characters of a sent UID, 0 where it was made */
+    GATEWAY_NAME_LENGTH = GATEWAY_NAME_SERIAL + GATEWAY_SERIAL_BYTES, /* characters of a sent one, 0 of a made one */
     GATEWAY_NAME_TEXT = GATEWAY_NAME_LENGTH + 1,
     GATEWAY_NAME_BYTES = GATEWAY_NAME_TEXT + GATEWAY_TEXT_BYTES,
 
@@ -51,7 +51,7 @@ enum {
     GATEWAY_FILM_COUNTS = GATEWAY_FILM_LINES + 1,                  /* how many boxes each line has, a byte each */
     GATEWAY_FILM_ORIENTATION = GATEWAY_FILM_COUNTS + GATEWAY_LINES, /* codes, as below */
     GATEWAY_FILM_MAGNIFICATION = GATEWAY_FILM_ORIENTATION + 1,
-    GATEWAY_FILM_FIRST_BOX = GATEWAY_FILM_MAGNIFICATION + 1, /* the serial of its first box; the next box has the next */
+    GATEWAY_FILM_FIRST_BOX = GATEWAY_FILM_MAGNIFICATION + 1, /* its first box's serial; the next box has the next */
     GATEWAY_FILM_BOXES = GATEWAY_FILM_FIRST_BOX + GATEWAY_SERIAL_BYTES,
     GATEWAY_FILM_BYTES = GATEWAY_FILM_BOXES + GATEWAY_BOXES * GATEWAY_BOX_BYTES,
 

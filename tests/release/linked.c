@@ -1,5 +1,5 @@
-/* A host, in C or C++, that links both archives of an installed release. It says version and commit of the archive, which is of
- * the header's version. */
+/* A host, in C or C++, that links both archives of an installed release. It says version and commit of the archive,
+ * which is of the header's version. */
 #include <gateway.h>
 #include <inspect.h>
 

@@ -44,10 +44,13 @@ def is_command(word):
 def try_commands(path, text, document):
     for line, words in document.commands():
         if is_command(words[0]) and not marked(text.splitlines(), line):
-            yield None if os.access(PACKAGE / words[0], os.X_OK) else f"{path}:{line}: no command {words[0]}, and it is not marked"
+            there = os.access(PACKAGE / words[0], os.X_OK)
+            yield None if there else f"{path}:{line}: no command {words[0]}, and it is not marked"
 
 
 def try_documents():
+    marks = re.findall(r"\*\(repository.*?\)\*", (PACKAGE / "README.md").read_text(encoding="utf-8"))
+    yield None if len(marks) == 1 else f"README.md, which tells of the mark once, has it as {marks}"
     for path in sorted(PACKAGE.rglob("*.md")):
         text = path.read_text(encoding="utf-8")
         document = Document(text)
@@ -56,10 +59,12 @@ def try_documents():
 
 
 def try_list():
-    listed = {name: int(size) for size, name in re.findall(r"^ *(\d+)  (\S+)$", (PACKAGE / "RELEASE").read_text(encoding="utf-8"), re.M)}
+    lines = re.findall(r"^ *(\d+)  (\S+)$", (PACKAGE / "RELEASE").read_text(encoding="utf-8"), re.M)
+    listed = {name: int(size) for size, name in lines}
     there = {str(path.relative_to(PACKAGE)): path.stat().st_size for path in PACKAGE.rglob("*") if path.is_file()}
     for name in sorted(listed.keys() | there.keys() - {"RELEASE", "SHA256SUMS"}):
-        yield None if listed.get(name) == there.get(name) else f"RELEASE: {name} has {listed.get(name)} bytes, and is {there.get(name)}"
+        said, bytes_there = listed.get(name), there.get(name)
+        yield None if said == bytes_there else f"RELEASE says that {name} has {said} bytes, and it has {bytes_there}"
 
 
 def main():
