@@ -77,5 +77,8 @@ archive() {
             "\"What it needs\" says which): unpack the kit, and run PATH=KIT/bin:\$PATH $0" >&2
         return 1
     fi
-    prove_and_build "$1"
+    if ! prove_and_build "$1"; then
+        echo "$0: $built is not built. The kit here is $(rt version); README.md says with which the crates are proved" >&2
+        return 1
+    fi
 }
