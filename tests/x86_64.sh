@@ -29,10 +29,28 @@ cc_x86_64() {
     "${x86_64_tools}gcc" ${x86_64_link[@]+"${x86_64_link[@]}"} -std=c11 -D_POSIX_C_SOURCE=200809L -Wall -Wextra -Werror "$@"
 }
 
-# What a program of host/ is built of, by host/programs.txt: its sources, and its archives in the folder given.
+# The headers of a folder, as includes name it, that modules of host/ include.
+included() {
+    local folder=$1 module
+    shift
+    for module; do
+        cat "host/$module.c" "host/$module.h" 2>/dev/null
+    done | sed -n "s|^#include \"$folder\([a-z_]*\)\.h\"\$|\1|p" | LC_ALL=C sort -u
+}
+
+# What a program of host/ is built of, as its includes say: the sources of the modules, and their archives in the folder given.
 parts_of() {
-    awk -v program="$1:" -v folder="$2" \
-        '$1 == program { for (i = 2; i <= NF; i++) print ($i ~ /\.a$/ ? folder : "host") "/" $i }' host/programs.txt
+    local modules=$1 before= module header
+    while [ "$modules" != "$before" ]; do
+        before=$modules
+        modules=$(printf '%s\n' $before $(included '' $before) | LC_ALL=C sort -u)
+    done
+    for module in $modules; do
+        [ ! -f "host/$module.c" ] || echo "host/$module.c"
+    done
+    for header in $(included ../include/ $modules); do
+        ! grep -q "^$header:" crates.txt || echo "$2/lib$header.a"
+    done
 }
 
 # Builds a program of host/, its archives too: its name, where it goes to, options.
