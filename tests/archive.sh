@@ -55,11 +55,12 @@ quietly() {
 
 prove_and_build() (
     SECONDS=0
+    folder=$(mktemp -d)
+    touch "$folder/begun"
     mapfile -t crates < <(crates_up_to "$1")
     export RT_JOBS="${RT_JOBS:-$(checks_at_a_time)}"
-    folder=$(mktemp -d)
     echo "proving ${#crates[@]} crates for target/staticlib/lib$1.a, up to $RT_JOBS at a time" >&2
-    tell_progress "$folder" "$1" ${#crates[@]} &
+    tell_progress "$folder/begun" "$1" ${#crates[@]} &
     trap "kill $! 2>/dev/null || true; rm -rf '$folder'" EXIT
     quietly "$folder/said" rt check "${crates[@]:0:${#crates[@]}-1}" || exit 1
     quietly "$folder/said" rt staticlib "$1" || exit 1

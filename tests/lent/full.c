@@ -52,7 +52,7 @@ void fill_records(uint8_t *records)
     put(records, GATEWAY_AT_NEXT_SERIAL, GATEWAY_NEXT_BYTES, 10000);
     put(records, GATEWAY_AT_NEXT_PICTURE, GATEWAY_NEXT_BYTES, 1000);
     put(records, GATEWAY_AT_NEXT_TICKET, GATEWAY_TICKET_BYTES, 16);
-    fill_session(records + GATEWAY_AT_SESSIONS);
+    fill_session(records + GATEWAY_AT_SESSION);
     records[GATEWAY_AT_FILM_COUNT] = GATEWAY_FILMS;
     for (uint32_t i = 0; i < GATEWAY_FILMS; i++)
         fill_film(records + GATEWAY_AT_FILMS + GATEWAY_FILM_BYTES * i, i);
