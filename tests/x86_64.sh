@@ -53,7 +53,8 @@ parts_of() {
     done
 }
 
-# Builds a program of host/, its archives too: its name, where it goes to, options.
+# Builds a program of host/, its archives too, where it is missing or older than a file of these: its name, where it goes to,
+# options.
 build_host() {
     local program=$1 output=$2 parts part
     shift 2
@@ -61,7 +62,9 @@ build_host() {
     for part in "${parts[@]}"; do
         [[ $part != *.a ]] || { part=${part##*/lib} && archive "${part%.a}"; }
     done
-    cc_x86_64 -O2 "$@" "${parts[@]}" -o "$output"
+    if [ ! -x "$output" ] || [ -n "$(find host include "${parts[@]}" -newer "$output" -print -quit)" ]; then
+        cc_x86_64 -O2 "$@" "${parts[@]}" -o "$output"
+    fi
 }
 
 # Runs a program with its arguments.
