@@ -29,27 +29,28 @@ cc_x86_64() {
     "${x86_64_tools}gcc" ${x86_64_link[@]+"${x86_64_link[@]}"} -std=c11 -D_POSIX_C_SOURCE=200809L -Wall -Wextra -Werror "$@"
 }
 
-# The headers of a folder, as includes name it, that modules of host/ include.
+# The modules whose headers these modules include: paths without endings.
 included() {
-    local folder=$1 module
-    shift
+    local module
     for module; do
-        cat "host/$module.c" "host/$module.h" 2>/dev/null
-    done | sed -n "s|^#include \"$folder\([a-z_]*\)\.h\"\$|\1|p" | LC_ALL=C sort -u
+        sed -n "s|^#include \"\(.*\)\.h\"\$|${module%/*}/\1|p" "$module".[ch]
+    done | xargs -r realpath -m --relative-to=.
 }
 
 # What a program of host/ is built of, as its includes say: the sources of the modules, and their archives in the folder given.
 parts_of() {
-    local modules=$1 before= module header
+    local modules before= module
+    modules=$(find host -name "$1.c" | sed 's/\.c$//')
     while [ "$modules" != "$before" ]; do
         before=$modules
-        modules=$(printf '%s\n' $before $(included '' $before) | LC_ALL=C sort -u)
+        modules=$(printf '%s\n' $before $(included $before) | LC_ALL=C sort -u)
     done
     for module in $modules; do
-        [ ! -f "host/$module.c" ] || echo "host/$module.c"
-    done
-    for header in $(included ../include/ $modules); do
-        ! grep -q "^$header:" crates.txt || echo "$2/lib$header.a"
+        if [ -f "$module.c" ]; then
+            echo "$module.c"
+        elif grep -q "^${module#include/}:" crates.txt; then
+            echo "$2/lib${module#include/}.a"
+        fi
     done
 }
 
