@@ -1,169 +1,155 @@
-/* Shows a message from a hex dump: `decode [-e] [-c | -d] [FILE]`. The dump has the fragments of messages; with -c it
- * is a bare command set, with -d a bare data set. Data sets are in implicit VR, with -e in explicit VR. Blanks and line
- * ends may stand anywhere, and # begins a comment. The refusal that the gateway's proved reader gives stands at the end
- * of each set; the exit status is 1 where there is one, and 2 where the dump cannot be read. */
+/* Shows what stands in a dump, and says what the gateway would do with it: docs/FIELD.md. The exit status is 0 where all
+ * was read and nothing failed; 1 where a set was refused, a message dropped or cut off, or a failure answered; 2 where
+ * the dump cannot be read, the arguments are wrong, or an answer was not explained. */
+#include <errno.h>
+#include <getopt.h>
 #include <stdio.h>
 #include <stdlib.h>
 #include <string.h>
-#include <unistd.h>
 
-#include "../include/inspect.h"
-#include "data_sets.h"
-#include "hex.h"
-#include "show.h"
+#include "conversations.h"
+#include "learning.h"
+#include "traces.h"
 
-enum what { FRAGMENTS, COMMAND_SET, DATA_SET };
+enum { AS = 256, ALONE, ROOT_OF, SERIAL, PICTURE, CONTEXT, BUFFER };
 
-enum { HEADER = 6, MOST = 64 << 20 };
-
-static _Noreturn void stop(const char *why)
-{
-    fprintf(stderr, "decode: %s\n", why);
-    exit(2);
-}
-
-static int next_character(FILE *file)
-{
-    int c = getc(file);
-    if (c == '#')
-        while (c != '\n' && c != EOF)
-            c = getc(file);
-    return c;
-}
-
-/* The next digit; -1 at the end of the file. */
-static int next_digit(FILE *file)
-{
-    int c = next_character(file);
-    while (c == ' ' || c == '\t' || c == '\r' || c == '\n')
-        c = next_character(file);
-    if (c == EOF)
-        return -1;
-    if (hex_digit(c) < 0)
-        stop("a character that is no hexadecimal digit");
-    return hex_digit(c);
-}
-
-static struct data_set read_dump(FILE *file)
-{
-    struct data_set d = new_data_set(MOST, IMPLICIT);
-    for (int high = next_digit(file); high >= 0; high = next_digit(file)) {
-        int low = next_digit(file);
-        if (low < 0)
-            stop("half a byte at the end");
-        put_number(&d, (uint32_t)(high << 4 | low), 1);
-    }
-    return d;
-}
-
-/* Shows a set and what the proved reader says of it; the walk that showed it must agree. */
-static bool decode_set(const char *what, const uint8_t *bytes, size_t n, uint32_t syntax)
-{
-    printf("%s set of %zu bytes, %s VR\n", what, n, syntax == EXPLICIT ? "explicit" : "implicit");
-    uint32_t walked = show_set(bytes, n, syntax == EXPLICIT), refusal = inspect_data_set(bytes, n, syntax);
-    if (refusal == 0)
-        puts("read whole");
-    else
-        printf("refused with %u: %s\n", (unsigned)refusal, refusal_text(refusal));
-    if (walked != refusal) {
-        fflush(stdout);
-        fprintf(stderr, "decode: what is shown ends with %u: please report this dump\n", (unsigned)walked);
-        exit(2);
-    }
-    return refusal == 0;
-}
-
-/* The bytes that fragments carry, of a command set or of a data set. */
-struct collected {
-    struct data_set set;
-    bool command, whole;
+static const struct option options[] = {
+    { "as", required_argument, NULL, AS },
+    { "alone", no_argument, NULL, ALONE },
+    { "root", required_argument, NULL, ROOT_OF },
+    { "serial", required_argument, NULL, SERIAL },
+    { "picture", required_argument, NULL, PICTURE },
+    { "context", required_argument, NULL, CONTEXT },
+    { "buffer", required_argument, NULL, BUFFER },
+    { NULL, 0, NULL, 0 },
 };
 
-static bool finish(struct collected *c, uint32_t syntax)
-{
-    bool read = decode_set(c->command ? "command" : "data", c->set.bytes, c->set.n, c->command ? IMPLICIT : syntax);
-    c->set.n = 0;
-    c->whole = true;
-    return read;
-}
-
-/* The length of the fragment at a place, its header counted; what the dump has of it, where that is less. */
-static size_t show_fragment(const struct data_set *d, size_t at, unsigned number)
-{
-    const uint8_t *p = d->bytes + at;
-    if (d->n - at < HEADER)
-        stop("a fragment's header is cut short");
-    size_t n = (size_t)p[0] << 24 | (size_t)p[1] << 16 | (size_t)p[2] << 8 | p[3];
-    printf("fragment %u: context %u, %s%s, %zu bytes\n", number, p[4], p[5] & 1 ? "command" : "data",
-           p[5] & 2 ? ", last" : "", n < 2 ? 0 : n - 2);
-    if (p[5] & 0xFC)
-        printf("  control bits 2 to 7 are set: refused with 5\n");
-    if (n < 2)
-        stop("a fragment's length is below 2: refused with 5");
-    if (n + 4 <= d->n - at)
-        return n + 4;
-    printf("  the dump has %zu of them: refused with 5\n", d->n - at - HEADER);
-    return d->n - at;
-}
-
-static bool decode_fragments(const struct data_set *d, uint32_t syntax)
-{
-    struct collected c = { new_data_set(d->n + 1, IMPLICIT), false, true };
-    bool read = true;
-    size_t length;
-    unsigned number = 0;
-    if (d->n == 0)
-        stop("the dump is empty");
-    for (size_t at = 0; at < d->n; at += length) {
-        length = show_fragment(d, at, ++number);
-        bool command = d->bytes[at + 5] & 1;
-        if (!c.whole && command != c.command)
-            read = finish(&c, syntax) && read;
-        c.command = command;
-        c.whole = false;
-        put_bytes(&c.set, d->bytes + at + HEADER, length - HEADER);
-        if (d->bytes[at + 5] & 2)
-            read = finish(&c, syntax) && read;
-    }
-    if (!c.whole) {
-        puts("the last message is not whole");
-        read = finish(&c, syntax) && read;
-    }
-    free_data_set(&c.set);
-    return read;
-}
+struct arguments {
+    enum dump_kind kind;
+    enum content content;
+    struct wishes wishes;
+    const char *file;
+};
 
 static _Noreturn void usage(void)
 {
-    fprintf(stderr, "usage: decode [-e] [-c | -d] [FILE]\n"
-                    "shows the fragments in a hex dump; -c: it is a command set; -d: a data set; -e: in explicit VR\n");
+    fprintf(stderr, "usage: decode [-i | -e] [-p | -f | -c | -d] [--as binary|hex|rows|escapes|arrays|trace] [--alone] "
+                    "[--root ROOT] [--serial N] [--picture N] [--context N] [--buffer N] [FILE]\n");
     exit(2);
+}
+
+/* A number from 1 on. */
+static uint32_t number_of(const char *word, uint32_t least, uint32_t most)
+{
+    char *end;
+    errno = 0;
+    unsigned long long n = strtoull(word, &end, 10);
+    if (*word < '0' || *word > '9' || *end != 0 || errno != 0 || n < least || n > most)
+        usage();
+    return (uint32_t)n;
+}
+
+static void heed_long_option(int option, const char *word, struct arguments *a)
+{
+    switch (option) {
+    case AS:
+        a->kind = kind_of(word);
+        if (a->kind == TOLD_APART)
+            usage();
+        break;
+    case ALONE:
+        a->wishes.alone = true;
+        break;
+    case ROOT_OF:
+        a->wishes.root = word;
+        break;
+    case SERIAL:
+        a->wishes.serial = number_of(word, 1, UINT32_MAX);
+        break;
+    case PICTURE:
+        a->wishes.picture = number_of(word, 1, UINT32_MAX);
+        break;
+    case CONTEXT:
+        a->wishes.context = number_of(word, 1, 255);
+        break;
+    case BUFFER:
+        a->wishes.buffer = number_of(word, GATEWAY_MESSAGE_LEAST, GATEWAY_MESSAGE_MOST);
+        break;
+    default:
+        usage();
+    }
+}
+
+static void heed_option(int option, const char *word, struct arguments *a)
+{
+    switch (option) {
+    case 'i':
+        a->wishes.syntax = GATEWAY_IMPLICIT;
+        break;
+    case 'e':
+        a->wishes.syntax = GATEWAY_EXPLICIT;
+        break;
+    case 'p':
+        a->content = PDUS;
+        break;
+    case 'f':
+        a->content = FRAGMENTS;
+        break;
+    case 'c':
+        a->content = COMMAND_SET;
+        break;
+    case 'd':
+        a->content = DATA_SET;
+        break;
+    default:
+        heed_long_option(option, word, a);
+    }
+}
+
+static bool is_root(const char *root)
+{
+    struct uid uid;
+    return root == NULL || (strlen(root) <= GATEWAY_ROOT_MOST && uid_of_value((const uint8_t *)root, strlen(root), &uid));
+}
+
+static struct arguments read_arguments(int argc, char **argv)
+{
+    struct arguments a = { .wishes.buffer = GATEWAY_MESSAGE_MOST };
+    opterr = 0;
+    for (int option; (option = getopt_long(argc, argv, "iepfcd", options, NULL)) != -1;)
+        heed_option(option, optarg, &a);
+    if (argc - optind > 1 || !is_root(a.wishes.root))
+        usage();
+    a.file = optind < argc ? argv[optind] : NULL;
+    return a;
+}
+
+/* A bare data set meets no request: it is read alone. */
+static enum outcome decode_data_set(const struct dump *d, uint32_t given)
+{
+    uint32_t guess = guess_set_syntax(d->bytes.bytes, d->bytes.n);
+    uint32_t syntax = given != 0 ? given : guess != 0 ? guess : GATEWAY_IMPLICIT;
+    struct pieces set = new_pieces(d->bytes.n);
+    put_piece(&set, d->bytes.bytes, d->bytes.n, d->first);
+    if (given == 0)
+        printf("%s VR, guessed: %s VR stands behind the first tag\n", syntax == GATEWAY_EXPLICIT ? "explicit" : "implicit",
+               syntax == GATEWAY_EXPLICIT ? "a" : "no");
+    enum outcome outcome = show_read("data set", &set, syntax);
+    if (outcome == FAILED)
+        puts("gateway: 0110H, check 5, for a request that it comes with, unless an earlier check applies (rule 6.5)");
+    free_pieces(&set);
+    return outcome;
 }
 
 int main(int argc, char **argv)
 {
-    uint32_t syntax = IMPLICIT;
-    enum what what = FRAGMENTS;
-    for (int option; (option = getopt(argc, argv, "ecd")) != -1;) {
-        if (option == 'e')
-            syntax = EXPLICIT;
-        else if (option == 'c' || option == 'd')
-            what = option == 'c' ? COMMAND_SET : DATA_SET;
-        else
-            usage();
-    }
-    if (argc - optind > 1)
-        usage();
-    FILE *file = optind < argc ? fopen(argv[optind], "r") : stdin;
-    if (file == NULL) {
-        perror(argv[optind]);
-        return 2;
-    }
-    struct data_set d = read_dump(file);
-    bool read = what == FRAGMENTS     ? decode_fragments(&d, syntax)
-                : what == COMMAND_SET ? decode_set("command", d.bytes, d.n, IMPLICIT)
-                                      : decode_set("data", d.bytes, d.n, syntax);
-    free_data_set(&d);
-    fclose(file);
-    return read ? 0 : 1;
+    struct arguments a = read_arguments(argc, argv);
+    struct dump d = read_dump(a.file, a.kind);
+    struct capture c = d.kind == TRACE ? split_trace(&d) : split_dump(&d, a.content);
+    printf("dump: %zu bytes, %s; %s%s%s\n", d.bytes.n, kind_text(d.kind), content_text(c.content),
+           c.why == NULL ? "" : ": ", c.why == NULL ? "" : c.why);
+    enum outcome outcome = c.content == DATA_SET ? decode_data_set(&d, a.wishes.syntax) : go_through(&c, &a.wishes);
+    free_capture(&c);
+    free_data_set(&d.bytes);
+    return outcome;
 }

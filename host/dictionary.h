@@ -1,4 +1,5 @@
-/* The tags that document 01 names, and the VRs that it knows. */
+/* The tags that the rules name (5.14), and the VRs that they know (5.10); and the other tags that consoles send, which
+ * have a name and a VR for showing alone. */
 #ifndef DICTIONARY_H
 #define DICTIONARY_H
 
@@ -18,8 +19,15 @@ struct form {
     uint8_t header; /* bytes of a header in explicit VR */
 };
 
-/* NULL for a tag that is not named. */
+/* A tag that the rules name: it is read by its VR. NULL for any other. */
 const struct named *named_tag(uint32_t tag);
+
+/* A tag to be shown by its name and VR, named by the rules or not; NULL where none is known. A VR may be two, as "US or
+ * SS": the first is that of most consoles. */
+const struct named *shown_tag(uint32_t tag);
+
+/* An element of no known VR, in implicit VR. */
+extern const struct form opaque;
 
 /* By two letters; NULL for an unknown VR. */
 const struct form *form_of(const char *vr);

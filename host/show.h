@@ -2,15 +2,11 @@
 #ifndef SHOW_H
 #define SHOW_H
 
-#include <stdbool.h>
-#include <stddef.h>
-#include <stdint.h>
+#include "pieces.h"
+#include "walk.h"
 
-/* Shows every header up to the first at fault, by document 01's rules: place, tag, VR, length, name and value, indented
- * by depth. Returns 0, or the number of the refusal. */
-uint32_t show_set(const uint8_t *bytes, size_t n, bool explicit_vr);
-
-/* What a refusal says. */
-const char *refusal_text(uint32_t refusal);
+/* Shows every header up to the first at fault: its place in the dump and in the set, tag, VR, length, name and value,
+ * indented by depth. */
+struct walked show_set(const struct pieces *set, bool explicit_vr);
 
 #endif

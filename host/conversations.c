@@ -1,0 +1,350 @@
+#include "conversations.h"
+
+#include <stdio.h>
+#include <stdlib.h>
+#include <string.h>
+
+#include "../include/inspect.h"
+#include "learning.h"
+#include "pdus.h"
+#include "requests.h"
+#include "show.h"
+
+#define ROOT "1.9.7"
+
+struct conversation {
+    const struct capture *capture;
+    const struct wishes *wishes;
+    struct gateway *gateway;
+    struct association association;
+    struct pieces command, data, response; /* what is collected of a request, and of a response */
+    struct uid root;
+    uint32_t serial, picture, syntax;
+    unsigned fragments, messages;
+    bool opened; /* an association was opened since the last A-ASSOCIATE-RQ; of a trace: always */
+    struct reason reason;
+    enum outcome worst;
+};
+
+static void note(struct conversation *c, enum outcome outcome)
+{
+    if (outcome > c->worst)
+        c->worst = outcome;
+}
+
+/* Sets. */
+
+enum outcome show_read(const char *what, const struct pieces *set, uint32_t syntax)
+{
+    printf("%s of %zu bytes, %s VR\n", what, set->set.n, syntax == GATEWAY_EXPLICIT ? "explicit" : "implicit");
+    if (set->set.n > 0)
+        puts("    dump       set");
+    struct walked walked = show_set(set, syntax == GATEWAY_EXPLICIT);
+    uint32_t refusal = inspect_data_set(set->set.bytes, set->set.n, syntax);
+    if (refusal == READ)
+        puts("read whole");
+    else
+        printf("refused with %u: %s (rule 5.%u)\n", (unsigned)refusal, refusal_text(refusal), (unsigned)refusal);
+    if (walked.refusal != refusal) {
+        printf("what is shown ends with %u: please report this dump\n", (unsigned)walked.refusal);
+        return NOT_EXPLAINED;
+    }
+    return refusal == READ ? FINE : FAILED;
+}
+
+/* Starting and opening. */
+
+static void start(struct conversation *c)
+{
+    uint32_t n = start_gateway(c->gateway, (const uint8_t *)c->root.text, strlen(c->root.text), c->serial, c->picture);
+    if (n != GATEWAY_DONE)
+        stop("start is refused with %u: the root is no UID of 1 to %d characters, or a number is 0", (unsigned)n,
+             GATEWAY_ROOT_MOST);
+}
+
+/* The syntax of a context, and how it is known. */
+static uint32_t choose_syntax(const struct conversation *c, uint8_t context, size_t from)
+{
+    uint8_t accepted = c->association.accepted[context], proposed = c->association.proposed[context];
+    size_t dump_at;
+    if (c->wishes->syntax != 0) {
+        printf("as given\n");
+        return c->wishes->syntax;
+    }
+    if (accepted == GATEWAY_IMPLICIT || accepted == GATEWAY_EXPLICIT) {
+        printf("%s VR by the A-ASSOCIATE-AC\n", accepted == GATEWAY_EXPLICIT ? "explicit" : "implicit");
+        return accepted;
+    }
+    if (accepted == 0 && (proposed == GATEWAY_IMPLICIT || proposed == GATEWAY_EXPLICIT)) {
+        printf("%s VR, the only one that the A-ASSOCIATE-RQ proposes\n",
+               proposed == GATEWAY_EXPLICIT ? "explicit" : "implicit");
+        return proposed;
+    }
+    if (accepted == ANOTHER_SYNTAX)
+        printf("the A-ASSOCIATE-AC has a transfer syntax that the gateway does not know; ");
+    uint32_t guess = guess_syntax(c->capture, from, &dump_at);
+    if (guess == GATEWAY_EXPLICIT)
+        printf("explicit VR, guessed: a VR stands behind the first tag of the data set at %zXH\n", dump_at);
+    else if (guess == GATEWAY_IMPLICIT)
+        printf("implicit VR, guessed: no VR stands behind the first tag of the data set at %zXH\n", dump_at);
+    else
+        puts("implicit VR, guessed: there is no data set that shows it");
+    return guess == 0 ? GATEWAY_IMPLICIT : guess;
+}
+
+static void open(struct conversation *c, const struct capture_part *p)
+{
+    uint32_t context = c->wishes->context != 0 ? c->wishes->context : p->n > 4 ? p->bytes[4] : 1;
+    printf("open: context %u, ", (unsigned)context);
+    c->syntax = choose_syntax(c, (uint8_t)context, (size_t)(p - c->capture->parts));
+    uint32_t n = open_gateway(c->gateway, context, c->syntax, c->wishes->buffer);
+    if (n != GATEWAY_DONE) {
+        printf("gateway: open is refused with %u: a context is odd, 1 to 255 (rules 3.%u, 3.10)\n", (unsigned)n,
+               (unsigned)n);
+        note(c, FAILED);
+    }
+    c->opened = true;
+}
+
+static void close_open(struct conversation *c, const char *why)
+{
+    if (!is_open(c->gateway))
+        return;
+    printf("close: %s\n", why);
+    close_gateway(c->gateway);
+}
+
+/* Fragments. */
+
+static void show_fragment(struct conversation *c, const struct capture_part *p)
+{
+    printf("fragment %u at %zXH: ", ++c->fragments, p->dump_at);
+    if (p->n < FRAGMENT_HEADER) {
+        printf("%zu bytes, no header\n", p->n);
+        return;
+    }
+    printf("context %u, %s%s, %zu bytes\n", p->bytes[4], is_command(p) ? "command" : "data",
+           is_last(p) ? ", last" : "", p->n - FRAGMENT_HEADER);
+}
+
+static void collect(struct pieces *set, const struct capture_part *p)
+{
+    put_piece(set, p->bytes + FRAGMENT_HEADER, p->n - FRAGMENT_HEADER, p->dump_at + FRAGMENT_HEADER);
+}
+
+static void show_whole(struct conversation *c, const char *what, struct pieces *set, uint32_t syntax)
+{
+    note(c, show_read(what, set, syntax));
+    empty_pieces(set);
+}
+
+static void show_response_part(struct conversation *c, const struct capture_part *p)
+{
+    collect(&c->response, p);
+    if (!is_last(p))
+        return;
+    if (is_command(p))
+        show_whole(c, "command set of a response", &c->response, GATEWAY_IMPLICIT);
+    else
+        show_whole(c, "data set of a response", &c->response, c->syntax);
+    puts("not fed: it is no request");
+}
+
+/* A command that begins while a data set is collected cuts that message off. */
+static void show_cut_off(struct conversation *c)
+{
+    if (c->data.set.n > 0)
+        show_whole(c, "data set, cut off,", &c->data, c->syntax);
+    puts("gateway: cut off: the message before has no last fragment of its data set, and is not answered (rule 4.4)");
+    note(c, FAILED);
+}
+
+static void begin_message(struct conversation *c)
+{
+    if (is_in_data(c->gateway))
+        show_cut_off(c);
+    printf("\nmessage %u\n", ++c->messages);
+    empty_pieces(&c->command);
+    empty_pieces(&c->data);
+    if (!c->wishes->alone)
+        return;
+    start(c);
+    c->opened = false;
+}
+
+static void show_request_part(struct conversation *c, const struct capture_part *p)
+{
+    if (!header_is_sound(p))
+        return;
+    if (is_command(p))
+        collect(&c->command, p);
+    else
+        collect(&c->data, p);
+    if (!is_last(p))
+        return;
+    if (is_command(p))
+        show_whole(c, "command set", &c->command, GATEWAY_IMPLICIT);
+    else
+        show_whole(c, "data set", &c->data, c->syntax);
+}
+
+static bool begins_message(const struct conversation *c, const struct capture_part *p)
+{
+    return !p->of_response && header_is_sound(p) && is_command(p) &&
+           (is_idle(c->gateway) || is_in_data(c->gateway));
+}
+
+static void go_through_fragment(struct conversation *c, const struct capture_part *p)
+{
+    if (begins_message(c, p))
+        begin_message(c);
+    if (!c->opened)
+        open(c, p);
+    if (c->capture->content != COMMAND_SET)
+        show_fragment(c, p);
+    if (p->of_response) {
+        show_response_part(c, p);
+        return;
+    }
+    show_request_part(c, p);
+    if (!is_open(c->gateway) && c->capture->content != CALLS)
+        puts("not fed: the association has ended");
+    else
+        note(c, feed_gateway(c->gateway, p->bytes, p->n, &c->reason));
+}
+
+/* Parts. */
+
+static void go_through_pdu(struct conversation *c, const struct capture_part *p)
+{
+    putchar('\n');
+    show_pdu(p->bytes, p->n, p->dump_at, &c->association);
+    switch (p->bytes[0]) {
+    case A_ASSOCIATE_RQ:
+        close_open(c, "another association begins");
+        c->opened = false;
+        break;
+    case A_RELEASE_RQ:
+        close_open(c, "the association is released");
+        break;
+    case A_ABORT:
+        close_open(c, "the association is aborted");
+        break;
+    default:
+        break;
+    }
+}
+
+/* A call of a trace, other than feed. */
+static void make_call(struct conversation *c, const struct capture_part *p)
+{
+    static const char *const calls[] = { [A_START] = "start", [AN_OPEN] = "open", [A_CLOSE] = "close", [A_TAKE] = "take" };
+    uint32_t n;
+    if (p->kind == A_START)
+        n = start_gateway(c->gateway, p->bytes, p->n, (uint32_t)p->numbers[0], (uint32_t)p->numbers[1]);
+    else if (p->kind == AN_OPEN)
+        n = open_gateway(c->gateway, (uint32_t)p->numbers[0], (uint32_t)p->numbers[1], p->numbers[2]);
+    else if (p->kind == A_CLOSE)
+        n = close_gateway(c->gateway);
+    else
+        n = take_from_gateway(c->gateway);
+    if (p->kind == AN_OPEN && n == GATEWAY_DONE)
+        c->syntax = (uint32_t)p->numbers[1];
+    if (n == GATEWAY_DONE)
+        printf("\n%s: done\n", calls[p->kind]);
+    else
+        printf("\n%s: refused with %u (rule 3.%u)\n", calls[p->kind], (unsigned)n, (unsigned)n);
+    note(c, n == GATEWAY_DONE ? FINE : FAILED);
+}
+
+static void go_through_part(struct conversation *c, const struct capture_part *p)
+{
+    switch (p->kind) {
+    case A_PDU:
+        go_through_pdu(c, p);
+        break;
+    case A_FRAGMENT:
+        go_through_fragment(c, p);
+        break;
+    case CUT_SHORT:
+        printf("cut short at %zXH: the dump has %zu bytes of it\n", p->dump_at, p->n);
+        note(c, FAILED);
+        break;
+    case NOT_READABLE:
+        stop("at %zXH: %s", p->dump_at, p->why);
+    default:
+        make_call(c, p);
+    }
+}
+
+/* What is not whole at the end of the dump. */
+static void finish(struct conversation *c)
+{
+    if (!is_open(c->gateway) || is_idle(c->gateway))
+        return;
+    if (c->command.set.n > 0)
+        show_whole(c, "command set, not whole,", &c->command, GATEWAY_IMPLICIT);
+    if (c->data.set.n > 0)
+        show_whole(c, "data set, not whole,", &c->data, c->syntax);
+    printf("gateway: waits: %s\n", c->reason.text);
+}
+
+static void learn(struct conversation *c)
+{
+    size_t dump_at;
+    struct uid root;
+    uint32_t serial;
+    const char *how = "";
+    snprintf(c->root.text, sizeof c->root.text, "%s", c->wishes->root != NULL ? c->wishes->root : ROOT);
+    c->serial = c->wishes->serial != 0 ? c->wishes->serial : 1;
+    c->picture = c->wishes->picture != 0 ? c->wishes->picture : 1;
+    if (c->wishes->root == NULL && c->wishes->serial == 0 && learn_root(c->capture, &root, &serial, &dump_at)) {
+        c->root = root;
+        c->serial = serial;
+        how = ", root and serial by a response";
+    }
+    printf("gateway: root %s, next serial %u, next picture %u, message buffer of %zu bytes%s\n", c->root.text,
+           (unsigned)c->serial, (unsigned)c->picture, c->wishes->buffer, how);
+    if (*how != 0)
+        printf("         (the N-CREATE response at %zXH names a UID that no request sent)\n", dump_at);
+}
+
+static struct conversation new_conversation(const struct capture *capture, const struct wishes *w, size_t room)
+{
+    return (struct conversation){
+        .capture = capture,
+        .wishes = w,
+        .gateway = new_gateway(),
+        .command = new_pieces(room),
+        .data = new_pieces(room),
+        .response = new_pieces(room),
+        .syntax = GATEWAY_IMPLICIT,
+        .opened = capture->content == CALLS,
+    };
+}
+
+static enum outcome end_conversation(struct conversation *c)
+{
+    free_gateway(c->gateway);
+    free_pieces(&c->command);
+    free_pieces(&c->data);
+    free_pieces(&c->response);
+    return c->worst;
+}
+
+enum outcome go_through(struct capture *capture, const struct wishes *w)
+{
+    size_t room = 1;
+    for (size_t i = 0; i < capture->count; i++)
+        room += capture->parts[i].n;
+    struct conversation c = new_conversation(capture, w, room);
+    if (capture->content != CALLS) {
+        mark_responses(capture);
+        learn(&c);
+        start(&c);
+    }
+    for (size_t i = 0; i < capture->count; i++)
+        go_through_part(&c, &capture->parts[i]);
+    finish(&c);
+    return end_conversation(&c);
+}

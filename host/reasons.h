@@ -1,0 +1,34 @@
+/* What a feed must come to by the rules of docs/RULES.md, and why. */
+#ifndef REASONS_H
+#define REASONS_H
+
+#include <stddef.h>
+#include <stdint.h>
+
+enum { REASON_MOST = 640, REASONS_MOST = 16 };
+
+struct reason {
+    uint32_t returned; /* GATEWAY_RESPONSE, GATEWAY_DROPPED .. */
+    uint32_t status;   /* of a response */
+    unsigned check;    /* that gave a status other than success; else 0 */
+    char text[REASON_MOST];
+    /* what else is wrong with the message, and did not decide */
+    char also[REASONS_MOST][REASON_MOST];
+    size_t also_count;
+};
+
+/* Says why. */
+void say(struct reason *r, const char *format, ...);
+void say_also(struct reason *r, const char *format, ...);
+
+/* A status, by a check and for a reason. */
+void answer(struct reason *r, uint32_t status, unsigned check, const char *format, ...);
+
+/* A value's characters between quotes, the first of them where they are many. */
+struct quoted {
+    char text[160];
+};
+
+struct quoted quote(const uint8_t *value, size_t length);
+
+#endif
