@@ -61,10 +61,13 @@ static bool looks_like_command_set(const uint8_t *p, size_t n)
     return n >= COMMAND_SET_BEGIN && memcmp(p, "\0\0\0\0\4\0\0\0", COMMAND_SET_BEGIN) == 0;
 }
 
+/* A sound header, or any behind which a command set begins. */
 static bool looks_like_fragment(const uint8_t *p, size_t n)
 {
-    return n >= FRAGMENT_HEADER && big_endian(p, 4) >= 2 && big_endian(p, 4) <= n - 4 && p[4] % 2 == 1 &&
-           (p[5] & NO_BITS) == 0;
+    if (n < FRAGMENT_HEADER)
+        return false;
+    return looks_like_command_set(p + FRAGMENT_HEADER, n - FRAGMENT_HEADER) ||
+           (big_endian(p, 4) >= 2 && big_endian(p, 4) <= n - 4 && p[4] % 2 == 1 && (p[5] & NO_BITS) == 0);
 }
 
 static void pass(void *with, const struct header *h)
@@ -97,8 +100,8 @@ static void tell_apart(const struct dump *d, struct capture *c)
         c->content = DATA_SET;
         c->why = "it begins with an element";
     } else {
-        c->content = FRAGMENTS;
-        c->why = "it begins like nothing else";
+        stop("%s: at offset %zXH: neither a PDU, a fragment, a command set nor a data set begins here; -p, -f, -c or -d "
+             "says which it is", d->name, d->first);
     }
 }
 
@@ -190,7 +193,7 @@ static void make_fragment(struct capture *c, const struct left *l)
 
 struct capture split_dump(const struct dump *d, enum content content)
 {
-    struct capture c = { .content = content };
+    struct capture c = { .name = d->name, .content = content };
     struct left l = { d->bytes.bytes, d->bytes.n, d->first };
     if (content == CONTENT_TOLD_APART)
         tell_apart(d, &c);

@@ -24,6 +24,7 @@ struct capture_part {
 };
 
 struct capture {
+    const char *name; /* of the dump */
     enum content content;
     const char *why; /* it was told apart so; NULL where it was given */
     struct capture_part *parts;

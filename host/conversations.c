@@ -6,6 +6,7 @@
 
 #include "../include/inspect.h"
 #include "learning.h"
+#include "names.h"
 #include "pdus.h"
 #include "requests.h"
 #include "show.h"
@@ -22,6 +23,7 @@ struct conversation {
     uint32_t serial, picture, syntax;
     unsigned fragments, messages;
     bool opened; /* an association was opened since the last A-ASSOCIATE-RQ; of a trace: always */
+    uint32_t answered, status; /* the last message ID that the gateway answered, and its status */
     struct reason reason;
     enum outcome worst;
 };
@@ -34,9 +36,14 @@ static void note(struct conversation *c, enum outcome outcome)
 
 /* Sets. */
 
+static const char *vr_text(uint32_t syntax)
+{
+    return syntax == GATEWAY_EXPLICIT ? "explicit VR" : "implicit VR";
+}
+
 enum outcome show_read(const char *what, const struct pieces *set, uint32_t syntax)
 {
-    printf("%s of %zu bytes, %s VR\n", what, set->set.n, syntax == GATEWAY_EXPLICIT ? "explicit" : "implicit");
+    printf("%s of %zu bytes, %s\n", what, set->set.n, vr_text(syntax));
     if (set->set.n > 0)
         puts("    dump       set");
     struct walked walked = show_set(set, syntax == GATEWAY_EXPLICIT);
@@ -62,34 +69,43 @@ static void start(struct conversation *c)
              GATEWAY_ROOT_MOST);
 }
 
+static bool is_known_syntax(uint8_t syntax)
+{
+    return syntax == GATEWAY_IMPLICIT || syntax == GATEWAY_EXPLICIT;
+}
+
+/* A VR stands behind the first tag of a data set in explicit VR. */
+static uint32_t guess_and_say(const struct conversation *c, size_t from)
+{
+    size_t dump_at;
+    uint32_t guess = guess_syntax(c->capture, from, &dump_at);
+    if (guess == 0)
+        puts("implicit VR, guessed: there is no data set that shows it");
+    else
+        printf("%s, guessed: %s VR stands behind the first tag of the data set at %zXH\n", vr_text(guess),
+               guess == GATEWAY_EXPLICIT ? "a" : "no", dump_at);
+    return guess == 0 ? GATEWAY_IMPLICIT : guess;
+}
+
 /* The syntax of a context, and how it is known. */
 static uint32_t choose_syntax(const struct conversation *c, uint8_t context, size_t from)
 {
     uint8_t accepted = c->association.accepted[context], proposed = c->association.proposed[context];
-    size_t dump_at;
     if (c->wishes->syntax != 0) {
-        printf("as given\n");
+        printf("%s, as given\n", vr_text(c->wishes->syntax));
         return c->wishes->syntax;
     }
-    if (accepted == GATEWAY_IMPLICIT || accepted == GATEWAY_EXPLICIT) {
-        printf("%s VR by the A-ASSOCIATE-AC\n", accepted == GATEWAY_EXPLICIT ? "explicit" : "implicit");
+    if (is_known_syntax(accepted)) {
+        printf("%s, by the A-ASSOCIATE-AC\n", vr_text(accepted));
         return accepted;
     }
-    if (accepted == 0 && (proposed == GATEWAY_IMPLICIT || proposed == GATEWAY_EXPLICIT)) {
-        printf("%s VR, the only one that the A-ASSOCIATE-RQ proposes\n",
-               proposed == GATEWAY_EXPLICIT ? "explicit" : "implicit");
+    if (accepted == 0 && is_known_syntax(proposed)) {
+        printf("%s, the only one that the A-ASSOCIATE-RQ proposes\n", vr_text(proposed));
         return proposed;
     }
-    if (accepted == ANOTHER_SYNTAX)
-        printf("the A-ASSOCIATE-AC has a transfer syntax that the gateway does not know; ");
-    uint32_t guess = guess_syntax(c->capture, from, &dump_at);
-    if (guess == GATEWAY_EXPLICIT)
-        printf("explicit VR, guessed: a VR stands behind the first tag of the data set at %zXH\n", dump_at);
-    else if (guess == GATEWAY_IMPLICIT)
-        printf("implicit VR, guessed: no VR stands behind the first tag of the data set at %zXH\n", dump_at);
-    else
-        puts("implicit VR, guessed: there is no data set that shows it");
-    return guess == 0 ? GATEWAY_IMPLICIT : guess;
+    if (accepted != 0)
+        printf("by the A-ASSOCIATE-AC a transfer syntax that the gateway does not take; ");
+    return guess_and_say(c, from);
 }
 
 static void open(struct conversation *c, const struct capture_part *p)
@@ -138,16 +154,35 @@ static void show_whole(struct conversation *c, const char *what, struct pieces *
     empty_pieces(set);
 }
 
+/* What a response of the capture says, and where it is not what the gateway asked here says. */
+static void compare_response(struct conversation *c)
+{
+    const struct data_set *set = &c->response.set;
+    uint32_t field = field_in(set->bytes, set->n), status = status_in(set->bytes, set->n);
+    uint32_t message = answered_in(set->bytes, set->n);
+    const char *name = field_name(field), *meaning = status_name(status);
+    printf("response: %s to message ID %u", name == NULL ? "of an unknown operation" : name, (unsigned)message);
+    if (status <= UINT16_MAX)
+        printf(", %04XH", (unsigned)status);
+    if (meaning != NULL)
+        printf(" [%s]", meaning);
+    if (c->answered == message && c->status != status)
+        printf(", where the gateway asked here answered %04XH", (unsigned)c->status);
+    puts("; not fed: it is no request");
+}
+
 static void show_response_part(struct conversation *c, const struct capture_part *p)
 {
     collect(&c->response, p);
     if (!is_last(p))
         return;
-    if (is_command(p))
-        show_whole(c, "command set of a response", &c->response, GATEWAY_IMPLICIT);
-    else
+    if (!is_command(p)) {
         show_whole(c, "data set of a response", &c->response, c->syntax);
-    puts("not fed: it is no request");
+        return;
+    }
+    note(c, show_read("command set of a response", &c->response, GATEWAY_IMPLICIT));
+    compare_response(c);
+    empty_pieces(&c->response);
 }
 
 /* A command that begins while a data set is collected cuts that message off. */
@@ -194,8 +229,28 @@ static bool begins_message(const struct conversation *c, const struct capture_pa
            (is_idle(c->gateway) || is_in_data(c->gateway));
 }
 
+static void feed(struct conversation *c, const struct capture_part *p)
+{
+    note(c, feed_gateway(c->gateway, p->bytes, p->n, &c->reason));
+    if (c->reason.returned != GATEWAY_RESPONSE)
+        return;
+    c->answered = answered_in(c->gateway->command, number_at(c->gateway->report + GATEWAY_REPORT_COMMAND, 2));
+    c->status = c->reason.status;
+}
+
+/* With --context, the fragments of other contexts are passed over. */
+static bool is_passed_over(const struct conversation *c, const struct capture_part *p)
+{
+    return c->wishes->context != 0 && p->n > 4 && p->bytes[4] != c->wishes->context;
+}
+
 static void go_through_fragment(struct conversation *c, const struct capture_part *p)
 {
+    if (is_passed_over(c, p)) {
+        show_fragment(c, p);
+        puts("passed over: it is of another context");
+        return;
+    }
     if (begins_message(c, p))
         begin_message(c);
     if (!c->opened)
@@ -210,7 +265,7 @@ static void go_through_fragment(struct conversation *c, const struct capture_par
     if (!is_open(c->gateway) && c->capture->content != CALLS)
         puts("not fed: the association has ended");
     else
-        note(c, feed_gateway(c->gateway, p->bytes, p->n, &c->reason));
+        feed(c, p);
 }
 
 /* Parts. */
@@ -271,7 +326,7 @@ static void go_through_part(struct conversation *c, const struct capture_part *p
         note(c, FAILED);
         break;
     case NOT_READABLE:
-        stop("at %zXH: %s", p->dump_at, p->why);
+        stop("%s: at offset %zXH: %s", c->capture->name, p->dump_at, p->why);
     default:
         make_call(c, p);
     }
@@ -319,6 +374,7 @@ static struct conversation new_conversation(const struct capture *capture, const
         .data = new_pieces(room),
         .response = new_pieces(room),
         .syntax = GATEWAY_IMPLICIT,
+        .answered = UINT32_MAX,
         .opened = capture->content == CALLS,
     };
 }

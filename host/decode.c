@@ -38,7 +38,6 @@ static _Noreturn void usage(void)
     exit(2);
 }
 
-/* A number from 1 on. */
 static uint32_t number_of(const char *word, uint32_t least, uint32_t most)
 {
     char *end;
@@ -129,7 +128,7 @@ static enum outcome decode_data_set(const struct dump *d, uint32_t given)
 {
     uint32_t guess = guess_set_syntax(d->bytes.bytes, d->bytes.n);
     uint32_t syntax = given != 0 ? given : guess != 0 ? guess : GATEWAY_IMPLICIT;
-    struct pieces set = new_pieces(d->bytes.n);
+    struct pieces set = new_pieces(d->bytes.n + 1);
     put_piece(&set, d->bytes.bytes, d->bytes.n, d->first);
     if (given == 0)
         printf("%s VR, guessed: %s VR stands behind the first tag\n", syntax == GATEWAY_EXPLICIT ? "explicit" : "implicit",
@@ -145,6 +144,8 @@ int main(int argc, char **argv)
 {
     struct arguments a = read_arguments(argc, argv);
     struct dump d = read_dump(a.file, a.kind);
+    if (d.bytes.n == 0 && a.content != COMMAND_SET && a.content != DATA_SET)
+        stop("%s: no bytes", d.name);
     struct capture c = d.kind == TRACE ? split_trace(&d) : split_dump(&d, a.content);
     printf("dump: %zu bytes, %s; %s%s%s\n", d.bytes.n, kind_text(d.kind), content_text(c.content),
            c.why == NULL ? "" : ": ", c.why == NULL ? "" : c.why);

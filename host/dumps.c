@@ -163,7 +163,5 @@ struct dump read_dump(const char *name, enum dump_kind kind)
     struct dump d = read_open(name == NULL ? "standard input" : name, file, kind);
     if (file != stdin)
         fclose(file);
-    if (d.bytes.n == 0)
-        stop("%s: no bytes", d.name);
     return d;
 }

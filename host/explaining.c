@@ -93,6 +93,20 @@ static bool check_new_instance(const struct asked *a, struct reason *r)
     return false;
 }
 
+/* What check 8 would find in an N-SET were its instance live: of a message alone nothing is. */
+static void judge_all_the_same(enum class class, const struct list *l, struct reason *r)
+{
+    struct findings f = { 0 };
+    if (class == SESSION)
+        judge_session(l, &f);
+    else if (class == FILM)
+        judge_set_film(l, &f);
+    else
+        judge_box(l, GATEWAY_BOXES, &f);
+    for (size_t i = 0; i < f.count; i++)
+        say_also(r, "were it live, check 8 would give %04XH: %s", (unsigned)f.status, f.faults[i].text);
+}
+
 static bool check_instance(const struct asked *a, enum class class, struct instance *named, struct reason *r)
 {
     static const char *const called[] = { "nobody", "the session", "a film", "an image box" };
@@ -172,9 +186,10 @@ static void explain_new_film(const struct asked *a, const struct list *l, struct
         return;
     }
     uint64_t own = a->request.sent ? 0 : 1, first = next_serial(a->records) + own;
+    struct uid root = root_of(a->records);
     if (serials_left(a, f.boxes + own, r))
-        answer(r, 0x0000, 0, "film %s created with %zu box%s, serials %" PRIu64 " to %" PRIu64, uid_for_created(a).text,
-               f.boxes, f.boxes == 1 ? "" : "es", first, first + f.boxes - 1);
+        answer(r, 0x0000, 0, "film %s created with %zu box%s, %s.%" PRIu64 " to %s.%" PRIu64, uid_for_created(a).text,
+               f.boxes, f.boxes == 1 ? "" : "es", root.text, first, root.text, first + f.boxes - 1);
 }
 
 /* Setting, checks 8 and 9. */
@@ -307,20 +322,29 @@ static void explain_use(const struct asked *a, enum class class, const struct in
         explain_set_box(a, l, named, r);
 }
 
+/* Checks 6 to 11 of a request that names an instance. */
+static void explain_named(const struct asked *a, enum class class, const struct list *l, struct reason *r)
+{
+    struct instance named;
+    if (check_instance(a, class, &named, r))
+        explain_use(a, class, &named, l, r);
+    else if (named.living == NOBODY && a->request.operation == N_SET)
+        judge_all_the_same(class, l, r);
+}
+
 /* Checks 6 to 11 of a data set that is read. */
 static void explain_read(const struct asked *a, enum class class, const struct list *l, struct reason *r)
 {
-    struct instance named;
     if (a->request.operation == C_ECHO)
         answer(r, 0x0000, 0, "echoed");
-    else if (a->request.operation != N_CREATE && check_instance(a, class, &named, r))
-        explain_use(a, class, &named, l, r);
-    else if (a->request.operation == N_CREATE && check_new_instance(a, r)) {
-        if (class == SESSION)
-            explain_new_session(a, l, r);
-        else
-            explain_new_film(a, l, r);
-    }
+    else if (a->request.operation != N_CREATE)
+        explain_named(a, class, l, r);
+    else if (!check_new_instance(a, r))
+        return;
+    else if (class == SESSION)
+        explain_new_session(a, l, r);
+    else
+        explain_new_film(a, l, r);
 }
 
 /* Checks 4 and 5. */
@@ -355,7 +379,7 @@ static void explain_request(const struct asked *a, struct reason *r)
         answer(r, 0x0118, 2, "class %s%s%s is none of the four (rule 6.2)", q->class_uid.text,
                class_name == NULL ? "" : ", ", class_name == NULL ? "" : class_name);
     else if (!offers(class, q->operation))
-        answer(r, 0x0211, 3, "the class %s has no %s (rule 6.3)", classes[class].name, name);
+        answer(r, 0x0211, 3, "the class %s does not have this operation, %s (rule 6.3)", classes[class].name, name);
     else
         explain_data(a, class, r);
 }

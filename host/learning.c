@@ -147,10 +147,11 @@ uint32_t guess_set_syntax(const uint8_t *bytes, size_t n)
     return form_of((const char *)bytes + 4) != NULL ? GATEWAY_EXPLICIT : GATEWAY_IMPLICIT;
 }
 
-/* The first data fragment behind a command is the beginning of a data set. Another association has its own syntax. */
+/* The first data fragment, of the capture or behind a command, is the beginning of a data set. Another association has its
+ * own syntax. */
 uint32_t guess_syntax(const struct capture *c, size_t from, size_t *dump_at)
 {
-    bool behind_command = false;
+    bool begins = true;
     for (size_t i = from; i < c->count; i++) {
         const struct capture_part *p = &c->parts[i];
         if (p->kind == A_PDU && p->bytes[0] == A_ASSOCIATE_RQ)
@@ -159,9 +160,9 @@ uint32_t guess_syntax(const struct capture *c, size_t from, size_t *dump_at)
             continue;
         uint32_t guess = is_command(p) ? 0 : guess_set_syntax(payload(p), p->n - FRAGMENT_HEADER);
         *dump_at = p->dump_at + FRAGMENT_HEADER;
-        if (behind_command && guess != 0)
+        if (begins && guess != 0)
             return guess;
-        behind_command = is_command(p);
+        begins = is_command(p);
     }
     return 0;
 }

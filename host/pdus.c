@@ -80,13 +80,12 @@ static void show_context(const struct item *item, struct association *a)
         return;
     uint8_t number = item->bytes[0], result = item->bytes[2];
     printf("  context %u:", number);
-    if (item->type == CONTEXT_ANSWERED)
-        printf(" %s", result < sizeof results / sizeof *results ? results[result] : "another result");
-    uint8_t said = show_syntaxes(item->bytes + 4, item->n - 4);
     if (item->type == CONTEXT_PROPOSED)
-        a->proposed[number] = said;
-    else if (result == 0)
-        a->accepted[number] = said;
+        a->proposed[number] = show_syntaxes(item->bytes + 4, item->n - 4);
+    else
+        printf(" %s", result < sizeof results / sizeof *results ? results[result] : "another result");
+    if (item->type == CONTEXT_ANSWERED && result == 0)
+        a->accepted[number] = show_syntaxes(item->bytes + 4, item->n - 4);
     putchar('\n');
 }
 

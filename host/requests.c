@@ -13,7 +13,9 @@ enum {
     REQUESTED_CLASS = 0x00000003,
     COMMAND_FIELD = 0x00000100,
     MESSAGE_ID = 0x00000110,
+    ANSWERED_ID = 0x00000120,
     DATA_SET_TYPE = 0x00000800,
+    STATUS = 0x00000900,
     AFFECTED_INSTANCE = 0x00001000,
     REQUESTED_INSTANCE = 0x00001001,
     ACTION_TYPE = 0x00001008,
@@ -177,6 +179,16 @@ static uint32_t number_in(const uint8_t *command, size_t n, uint32_t tag)
 uint32_t field_in(const uint8_t *command, size_t n)
 {
     return number_in(command, n, COMMAND_FIELD);
+}
+
+uint32_t answered_in(const uint8_t *command, size_t n)
+{
+    return number_in(command, n, ANSWERED_ID);
+}
+
+uint32_t status_in(const uint8_t *command, size_t n)
+{
+    return number_in(command, n, STATUS);
 }
 
 bool data_comes(const uint8_t *command, size_t n)

@@ -19,8 +19,11 @@ struct request {
 /* False where it is not readable, with the reason. */
 bool read_request(const uint8_t *command, size_t n, struct request *q, struct reason *r);
 
-/* The field of a command set that may be of any kind; UINT32_MAX where it has none. Whether a data set comes. */
+/* Of a command set of any kind: its field, the message ID that it answers, its status; UINT32_MAX where it has none.
+ * Whether a data set comes. */
 uint32_t field_in(const uint8_t *command, size_t n);
+uint32_t answered_in(const uint8_t *command, size_t n);
+uint32_t status_in(const uint8_t *command, size_t n);
 bool data_comes(const uint8_t *command, size_t n);
 
 #endif

@@ -105,10 +105,12 @@ static void read_groups(struct scan *s, struct rows *r)
     }
 }
 
-/* In a full row of xxd, the text must not contradict the bytes: those of xxd -e are swapped. */
+/* In a row of xxd that is not filled up with blanks, the text must not contradict the bytes: those of xxd -e are swapped. */
 static void compare_text(struct scan *s, const struct rows *r)
 {
-    if (r->row < r->most || peek(s) != ' ' || peek_behind(s, 1) != ' ')
+    struct scan end = *s;
+    skip_line(&end);
+    if (end.at - s->at < 2 || end.at - s->at - 2 > r->row)
         return;
     step(s);
     step(s);

@@ -77,14 +77,21 @@ size_t digits_here(const struct scan *s)
     return n;
 }
 
+static bool ends_word(int c)
+{
+    return c == -1 || is_blank(c) || c == '\r' || c == '\n';
+}
+
 uint8_t take_byte(struct scan *s)
 {
     int high = hex_digit(peek(s)), low = hex_digit(peek_behind(s, 1));
     if (high < 0)
         refuse_text(s, "a character that is no hexadecimal digit");
-    if (low < 0)
+    if (low < 0 && ends_word(peek_behind(s, 1)))
         refuse_text(s, "half a byte");
     step(s);
+    if (low < 0)
+        refuse_text(s, "a character that is no hexadecimal digit");
     step(s);
     return (uint8_t)(high << 4 | low);
 }

@@ -72,7 +72,7 @@ static void take_call(struct scan *s, struct capture *c, size_t *made)
 struct capture split_trace(const struct dump *d)
 {
     struct scan s = scan_text(d->name, d->bytes.bytes, d->bytes.n);
-    struct capture c = { .content = CALLS, .made = malloc(d->bytes.n) };
+    struct capture c = { .name = d->name, .content = CALLS, .made = malloc(d->bytes.n) };
     size_t made = 0;
     if (c.made == NULL)
         stop("no memory");

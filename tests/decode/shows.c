@@ -26,12 +26,15 @@ int main(int argc, char **argv)
     unsigned long calls = argc > 1 ? strtoul(argv[1], NULL, 10) : 50000, counts[ANSWERS] = { 0 };
     struct noise r = { 20260131 };
     struct data_set d = new_data_set(ROOM, IMPLICIT);
+    struct pieces set = new_pieces(ROOM);
     if (freopen("/dev/null", "w", stdout) == NULL)
         return 2;
     for (unsigned long i = 0; i < calls; i++) {
         draw(&r, &d);
         uint32_t proved = inspect_data_set(d.bytes, d.n, d.explicit_vr ? EXPLICIT : IMPLICIT);
-        uint32_t shown = show_set(d.bytes, d.n, d.explicit_vr);
+        empty_pieces(&set);
+        put_piece(&set, d.bytes, d.n, 0);
+        uint32_t shown = show_set(&set, d.explicit_vr).refusal;
         if (proved != shown || proved >= ANSWERS) {
             fprintf(stderr, "decode: what is shown ends with %u, the reader with %u\n", (unsigned)shown,
                     (unsigned)proved);
@@ -44,5 +47,6 @@ int main(int argc, char **argv)
         fprintf(stderr, " %lu", counts[i]);
     fprintf(stderr, "\n");
     free_data_set(&d);
+    free_pieces(&set);
     return 0;
 }
