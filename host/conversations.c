@@ -358,10 +358,10 @@ static void learn(struct conversation *c)
         c->serial = serial;
         how = ", root and serial by a response";
     }
-    printf("gateway: root %s, next serial %u, next picture %u, message buffer of %zu bytes%s\n", c->root.text,
+    printf("start: root %s, next serial %u, next picture %u, message buffer of %zu bytes%s\n", c->root.text,
            (unsigned)c->serial, (unsigned)c->picture, c->wishes->buffer, how);
     if (*how != 0)
-        printf("         (the N-CREATE response at %zXH names a UID that no request sent)\n", dump_at);
+        printf("       (the N-CREATE response at %zXH names a UID that no request sent)\n", dump_at);
 }
 
 static struct conversation new_conversation(const struct capture *capture, const struct wishes *w, size_t room)

@@ -138,7 +138,7 @@ CASES = [
     ("the console's side alone", console_alone(), ["--serial", "100"], 1, [
         "next serial 100", "gateway: 0000H: film 1.9.7.101 created"]),
     ("another root", association(), ["--root", "1.2.3"], 1, [
-        "gateway: root 1.2.3, next serial 1,", "gateway: 0000H: session 1.2.3.1 created\n",
+        "start: root 1.2.3, next serial 1,", "gateway: 0000H: session 1.2.3.1 created\n",
         "0106H, check 8: Referenced SOP Instance UID (0008,1155) is 1.9.7.100, not 1.2.3.1, the live session (rule 7.3)",
         "where the gateway asked here answered 0106H",
         "0112H, check 6: 1.9.7.102 is not live (rule 6.6); live are session 1.2.3.1 [no such SOP instance]"]),
