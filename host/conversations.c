@@ -168,7 +168,7 @@ static void compare_response(struct conversation *c)
         printf(" [%s]", meaning);
     if (c->answered == message && c->status != status)
         printf(", where the gateway asked here answered %04XH", (unsigned)c->status);
-    puts("; not fed: it is no request");
+    puts("; not fed: it is no request (rule 6.14)");
 }
 
 static void show_response_part(struct conversation *c, const struct capture_part *p)
@@ -263,7 +263,7 @@ static void go_through_fragment(struct conversation *c, const struct capture_par
     }
     show_request_part(c, p);
     if (!is_open(c->gateway) && c->capture->content != CALLS)
-        puts("not fed: the association has ended");
+        puts("not fed: no association is open");
     else
         feed(c, p);
 }

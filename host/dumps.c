@@ -9,7 +9,8 @@
 #include "rows.h"
 #include "scanning.h"
 
-enum { MOST = 64 << 20 };
+/* A file may have so many bytes, and rows that a * stands for may make so many. */
+enum { FILE_FIRST = 1 << 20, FILE_MOST = 1 << 30, ROWS_MOST = 64 << 20 };
 
 static const struct {
     const char *word, *text;
@@ -48,14 +49,27 @@ _Noreturn void stop(const char *format, ...)
     exit(2);
 }
 
+static void make_room(struct data_set *text)
+{
+    text->room *= 2;
+    text->bytes = realloc(text->bytes, text->room);
+    if (text->bytes == NULL)
+        stop("no memory");
+}
+
 static struct data_set read_file(const char *name, FILE *file)
 {
-    struct data_set text = new_data_set(MOST + 1, IMPLICIT);
-    text.n = fread(text.bytes, 1, text.room, file);
+    struct data_set text = new_data_set(FILE_FIRST, IMPLICIT);
+    size_t n;
+    while ((n = fread(text.bytes + text.n, 1, text.room - text.n, file)) > 0) {
+        text.n += n;
+        if (text.n > FILE_MOST)
+            stop("%s: more than %d bytes", name, FILE_MOST);
+        if (text.n == text.room)
+            make_room(&text);
+    }
     if (ferror(file))
         stop("%s: cannot be read", name);
-    if (text.n == text.room)
-        stop("%s: more than %d bytes", name, MOST);
     return text;
 }
 
@@ -66,6 +80,12 @@ static bool is_binary(const struct data_set *text)
         if (text->bytes[i] < ' ' && memchr("\t\n\r\f", text->bytes[i], 4) == NULL)
             return true;
     return false;
+}
+
+/* Windows writes text in UTF-16 where a shell redirects it. */
+static bool is_utf_16(const struct data_set *text)
+{
+    return text->n >= 2 && (memcmp(text->bytes, "\xFF\xFE", 2) == 0 || memcmp(text->bytes, "\xFE\xFF", 2) == 0);
 }
 
 /* To the first line that is neither empty nor a comment. */
@@ -143,11 +163,13 @@ static struct dump read_open(const char *name, FILE *file, enum dump_kind kind)
     struct scan s = scan_text(name, text.bytes, text.n);
     struct dump d = { name, kind, text, 0 };
     skip_mark(&s);
+    if (kind == TOLD_APART && is_utf_16(&text))
+        stop("%s: at offset 0: text in UTF-16; save it as UTF-8, or give --as binary", name);
     if (kind == TOLD_APART)
         d.kind = is_binary(&text) ? BINARY : kind_of_text(&s);
     if (d.kind == BINARY || d.kind == TRACE)
         return d;
-    d.bytes = new_data_set(MOST, IMPLICIT);
+    d.bytes = new_data_set(text.n > ROWS_MOST ? text.n : ROWS_MOST, IMPLICIT);
     read_text(&s, &d);
     free_data_set(&text);
     return d;

@@ -4,7 +4,7 @@
 
 #include "hex.h"
 
-enum { OFFSET_LEAST = 4, OFFSET_MOST = 8, HALF_ROW = 8 };
+enum { OFFSET_LEAST = 4, OFFSET_MOST = 8, HALF_ROW = 8, ROW = 16 };
 
 /* What follows from the rows so far. Rows that are set in are those of the other direction in Wireshark's "Follow
    stream": they have offsets of their own. */
@@ -12,7 +12,7 @@ struct rows {
     struct data_set *bytes;
     uint64_t next[2];       /* the offset that follows, by direction */
     bool begun[2];
-    size_t most;            /* bytes in the longest row that may come: in the first one */
+    size_t most;            /* bytes that a row may have: those of the block's first one */
     size_t row_at, row;     /* where the last row's bytes begin, and how many they are */
     size_t first;           /* the offset of the first row */
     bool repeats;           /* a * stands behind the last row */
@@ -71,7 +71,9 @@ static void heed_offset(const struct scan *s, struct rows *r, uint64_t offset, i
         r->first = (size_t)offset;
     if (r->repeats)
         repeat_row(s, r, offset, direction);
-    if (r->begun[direction] && offset != 0 && offset != r->next[direction])
+    if (r->begun[direction] && offset == 0)
+        r->most = 0;
+    else if (r->begun[direction] && offset != r->next[direction])
         refuse_text(s, "the offset is %" PRIX64 ", and %" PRIX64 " follows", offset, r->next[direction]);
     if (!r->begun[direction] && r->bytes->n > 0 && offset != 0)
         refuse_text(s, "the first offset of rows that are set in is not 0");
@@ -82,7 +84,7 @@ static void heed_offset(const struct scan *s, struct rows *r, uint64_t offset, i
 static void put_row_byte(struct scan *s, struct rows *r)
 {
     if (r->most > 0 && r->row == r->most)
-        refuse_text(s, "the row has more bytes than the first one, which has %zu", r->most);
+        refuse_text(s, "the row has more than %zu bytes", r->most);
     put_number(r->bytes, take_byte(s), 1);
     r->row++;
 }
@@ -142,27 +144,31 @@ static void read_single_bytes(struct scan *s, struct rows *r)
     }
 }
 
+/* Rows of single bytes may begin with a short one, where a packet is short. */
+static void read_row_bytes(struct scan *s, struct rows *r)
+{
+    size_t least = ROW;
+    if (peek(s) == ':') {
+        step(s);
+        read_groups(s, r);
+        compare_text(s, r);
+        least = 1;
+    } else {
+        read_single_bytes(s, r);
+    }
+    if (r->most == 0)
+        r->most = r->row < least ? least : r->row;
+}
+
 static void read_row(struct scan *s, struct rows *r)
 {
     int direction = skip_blanks(s) > 0;
-    if (digits_here(s) == 0)
-        refuse_text(s, "no offset begins the row");
     struct scan offset_here = *s;
     uint64_t offset = take_offset(s);
     heed_offset(&offset_here, r, offset, direction);
     r->row_at = r->bytes->n;
     r->row = 0;
-    if (peek(s) == ':') {
-        step(s);
-        read_groups(s, r);
-        if (r->most == 0)
-            r->most = r->row;
-        compare_text(s, r);
-    } else {
-        read_single_bytes(s, r);
-    }
-    if (r->most == 0)
-        r->most = r->row;
+    read_row_bytes(s, r);
     r->next[direction] = offset + r->row;
     skip_line(s);
 }

@@ -132,7 +132,7 @@ CASES = [
         "gateway: 0000H: film 1.9.7.101 created with 2 boxes, 1.9.7.102 to 1.9.7.103\n",
         "gateway: 0000H: box 1.9.7.102 at position 1 has picture 1, 128 bytes of pixels at 144 of the data set\n",
         "gateway: 0106H, check 8: Pixel Data (7FE0,0010) has 126 bytes, and rows by columns by bytes a pixel make 128 (rule 7.10)",
-        "response: N-SET-RSP to message ID 4, 0106H [invalid attribute value]; not fed: it is no request\n",
+        "response: N-SET-RSP to message ID 4, 0106H [invalid attribute value]; not fed: it is no request (rule 6.14)\n",
         "gateway: 0000H: film 1.9.7.101 queued\n", "gateway: 0000H: session 1.9.7.100 deleted\n",
         "A-RELEASE-RQ at A35H, 10 bytes\nclose: the association is released\n"]),
     ("the console's side alone", console_alone(), ["--serial", "100"], 1, [
@@ -157,10 +157,11 @@ CASES = [
                                              "(2100,0160) SH 10  Owner ID  \"RADIOLOGY \"\n", "read whole\n"]),
     ("a printer's N-GET", fragment(1, 3, PRINTER), [], 1, [
         "gateway: 0211H, check 1: Command Field 0110H, N-GET-RQ is none of the five operations (rule 6.1)"]),
-    ("a response alone", fragment(1, 3, response(N_SET, BOX, 3, "1.9.7.102")), [], 0, ["not fed: it is no request\n"]),
+    ("a response alone", fragment(1, 3, response(N_SET, BOX, 3, "1.9.7.102")), [], 0, ["not fed: it is no request (rule 6.14)\n"]),
     ("two contexts", TWO_CONTEXTS, [], 1, [
         "gateway: 0000H: echoed\n", "gateway: refused with 5: the context is 1, and 3 is open (rule 4.2); the association ends",
-        "not fed: the association has ended\n"]),
+        "not fed: no association is open\n"]),
+    ("an even context", fragment(2, 3, ECHO), [], 1, ["gateway: open is refused with 3: a context is odd", "not fed: no association"]),
     ("one of two contexts", TWO_CONTEXTS, ["--context", "1"], 0, [
         "passed over: it is of another context\n", "gateway: 0000H: session 1.9.7.1 created\n"]),
     ("a stream cut short", association()[:0x1C0], [], 1, ["cut short at 1A9H: the dump has 23 bytes of it\n"]),
