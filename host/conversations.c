@@ -201,7 +201,7 @@ static void begin_message(struct conversation *c)
     printf("\nmessage %u\n", ++c->messages);
     empty_pieces(&c->command);
     empty_pieces(&c->data);
-    if (!c->wishes->alone)
+    if (!c->wishes->alone || c->capture->content == CALLS)
         return;
     start(c);
     c->opened = false;
@@ -241,7 +241,7 @@ static void feed(struct conversation *c, const struct capture_part *p)
 /* With --context, the fragments of other contexts are passed over. */
 static bool is_passed_over(const struct conversation *c, const struct capture_part *p)
 {
-    return c->wishes->context != 0 && p->n > 4 && p->bytes[4] != c->wishes->context;
+    return c->wishes->context != 0 && c->capture->content != CALLS && p->n > 4 && p->bytes[4] != c->wishes->context;
 }
 
 static void go_through_fragment(struct conversation *c, const struct capture_part *p)

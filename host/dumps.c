@@ -88,6 +88,24 @@ static bool is_utf_16(const struct data_set *text)
     return text->n >= 2 && (memcmp(text->bytes, "\xFF\xFE", 2) == 0 || memcmp(text->bytes, "\xFE\xFF", 2) == 0);
 }
 
+/* The files of tcpdump and Wireshark: DICOM is deep within them. */
+static bool is_packet_capture(const struct data_set *text)
+{
+    static const char marks[][5] = { "\xD4\xC3\xB2\xA1", "\xA1\xB2\xC3\xD4", "\x4D\x3C\xB2\xA1", "\x0A\x0D\x0D\x0A" };
+    for (size_t i = 0; i < sizeof marks / sizeof *marks; i++)
+        if (text->n >= 4 && memcmp(text->bytes, marks[i], 4) == 0)
+            return true;
+    return false;
+}
+
+static void refuse_other_files(const char *name, const struct data_set *text)
+{
+    if (is_utf_16(text))
+        stop("%s: at offset 0: text in UTF-16; save it as UTF-8, or give --as binary", name);
+    if (is_packet_capture(text))
+        stop("%s: at offset 0: a capture of packets; in Wireshark follow its TCP stream, show it raw and save that", name);
+}
+
 /* To the first line that is neither empty nor a comment. */
 static void skip_comments(struct scan *s)
 {
@@ -163,10 +181,10 @@ static struct dump read_open(const char *name, FILE *file, enum dump_kind kind)
     struct scan s = scan_text(name, text.bytes, text.n);
     struct dump d = { name, kind, text, 0 };
     skip_mark(&s);
-    if (kind == TOLD_APART && is_utf_16(&text))
-        stop("%s: at offset 0: text in UTF-16; save it as UTF-8, or give --as binary", name);
-    if (kind == TOLD_APART)
+    if (kind == TOLD_APART) {
+        refuse_other_files(name, &text);
         d.kind = is_binary(&text) ? BINARY : kind_of_text(&s);
+    }
     if (d.kind == BINARY || d.kind == TRACE)
         return d;
     d.bytes = new_data_set(text.n > ROWS_MOST ? text.n : ROWS_MOST, IMPLICIT);

@@ -358,8 +358,8 @@ static void explain_data(const struct asked *a, enum class class, struct reason 
     struct headers h = keep_headers(a->data, a->data_length, a->records[SYNTAX_AT] == GATEWAY_EXPLICIT);
     struct list l = whole_list(&h);
     if (h.walked.refusal != READ)
-        answer(r, 0x0110, 5, "refused with %u at %zu: %s (rule 5.%u)", (unsigned)h.walked.refusal, h.walked.at,
-               refusal_text(h.walked.refusal), (unsigned)h.walked.refusal);
+        answer(r, 0x0110, 5, "refused with %u at %zu: %s: %s (rule 5.%u)", (unsigned)h.walked.refusal, h.walked.at,
+               refusal_text(h.walked.refusal), refusal_detail(&h.walked, a->data).text, (unsigned)h.walked.refusal);
     else
         explain_read(a, class, &l, r);
     free_headers(&h);

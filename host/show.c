@@ -171,7 +171,7 @@ static void show_refused(const struct showing *s, const struct walked *w)
 {
     show_place(s, w->at, w->depth);
     show_bytes(s->set->set.bytes + w->at, w->left < REFUSED_SHOWN ? w->left : REFUSED_SHOWN);
-    printf("  <- here: %s\n", refusal_text(w->refusal));
+    printf("  <- here: %s\n", refusal_detail(w, s->set->set.bytes).text);
 }
 
 struct walked show_set(const struct pieces *set, bool explicit_vr)

@@ -1,5 +1,7 @@
 #include "walk.h"
 
+#include <inttypes.h>
+#include <stdio.h>
 #include <string.h>
 
 #include "data_sets.h"
@@ -22,6 +24,37 @@ const char *refusal_text(uint32_t refusal)
         [TOO_DEEP] = "a fifth sequence within sequences",
     };
     return refusal < sizeof texts / sizeof *texts ? texts[refusal] : "unknown";
+}
+
+static void detail_vr(const struct walked *w, const uint8_t *vr, char *text, size_t room)
+{
+    const struct named *row = named_tag(w->header.tag);
+    if (w->header.form == NULL)
+        snprintf(text, room, "the bytes %02X %02X are no VR", vr[0], vr[1]);
+    else if (w->header.size == 12 && number_at(vr + 2, 2) != 0)
+        snprintf(text, room, "behind %s stand %02X %02X", w->header.form->vr, vr[2], vr[3]);
+    else
+        snprintf(text, room, "%s, where the tag has %s", w->header.form->vr, row->vr);
+}
+
+struct detail refusal_detail(const struct walked *w, const uint8_t *bytes)
+{
+    struct detail d = { "" };
+    const struct header *h = &w->header;
+    if (w->refusal == CUT && (w->left < 8 || h->size > w->left))
+        snprintf(d.text, sizeof d.text, "%zu bytes are left for a header of %zu", w->left, h->size);
+    else if (w->refusal == CUT)
+        snprintf(d.text, sizeof d.text, "length %" PRIu32 ", %zu bytes are left", h->length, w->left - h->size);
+    else if (w->refusal == ODD)
+        snprintf(d.text, sizeof d.text, "length %" PRIu32, h->length);
+    else if (w->refusal == ORDER)
+        snprintf(d.text, sizeof d.text, "(%04X,%04X) behind (%04X,%04X)", (unsigned)(h->tag >> 16),
+                 (unsigned)(h->tag & 0xFFFF), (unsigned)((w->floor - 1) >> 16), (unsigned)((w->floor - 1) & 0xFFFF));
+    else if (w->refusal == WRONG_VR)
+        detail_vr(w, bytes + w->at + 4, d.text, sizeof d.text);
+    else
+        snprintf(d.text, sizeof d.text, "(%04X,%04X)", (unsigned)(h->tag >> 16), (unsigned)(h->tag & 0xFFFF));
+    return d;
 }
 
 uint32_t tag_at(const uint8_t *p)
@@ -120,9 +153,9 @@ static uint32_t read_item(const struct source *s, const struct inside *in, struc
     return judge_length(h->length, left - h->size, true);
 }
 
-static bool refuse(struct source *s, const struct inside *in, size_t at, uint32_t refusal)
+static bool refuse(struct source *s, const struct inside *in, const struct header *h, uint64_t floor, uint32_t refusal)
 {
-    s->walked = (struct walked){ refusal, at, in->end - at, in->depth };
+    s->walked = (struct walked){ refusal, h->at, in->end - h->at, in->depth, *h, floor };
     return false;
 }
 
@@ -155,7 +188,7 @@ static bool walk_items(struct source *s, size_t *at, const struct inside *in)
         struct header h = { ITEM, 0, 0, NULL, *at, 8, in->depth };
         uint32_t refusal = read_item(s, in, &h);
         if (refusal != READ)
-            return refuse(s, in, *at, refusal);
+            return refuse(s, in, &h, 0, refusal);
         s->visit(s->with, &h);
         *at += h.size;
         struct inside list = below_header(in, &h);
@@ -173,7 +206,7 @@ static bool walk_list(struct source *s, size_t *at, const struct inside *in)
         struct header h = { ELEMENT, 0, 0, NULL, *at, 8, in->depth };
         uint32_t refusal = read_element(s, in, floor, &h);
         if (refusal != READ)
-            return refuse(s, in, *at, refusal);
+            return refuse(s, in, &h, floor, refusal);
         s->visit(s->with, &h);
         floor = (uint64_t)h.tag + 1;
         *at += h.size;
@@ -188,7 +221,7 @@ static bool walk_list(struct source *s, size_t *at, const struct inside *in)
 
 struct walked walk_set(const uint8_t *bytes, size_t n, bool explicit_vr, visit *visit, void *with)
 {
-    struct source s = { bytes, explicit_vr, visit, with, { READ, n, 0, 0 } };
+    struct source s = { bytes, explicit_vr, visit, with, { .refusal = READ, .at = n } };
     struct inside whole = { n, false, 0 };
     size_t at = 0;
     walk_list(&s, &at, &whole);

@@ -30,6 +30,8 @@ struct walked {
     uint32_t refusal;
     size_t at, left; /* of a refusal: the header's place, and the bytes up to the end of what holds it */
     int depth;
+    struct header header; /* the one at fault, as far as it was read */
+    uint64_t floor;       /* the least tag that may stand there; 0 where any may */
 };
 
 typedef void visit(void *with, const struct header *h);
@@ -37,8 +39,14 @@ typedef void visit(void *with, const struct header *h);
 /* Shows every header that is read to a visitor, in order. */
 struct walked walk_set(const uint8_t *bytes, size_t n, bool explicit_vr, visit *visit, void *with);
 
-/* What a refusal says. */
+/* What a refusal says; and what it is about, with the header's own numbers. */
 const char *refusal_text(uint32_t refusal);
+
+struct detail {
+    char text[128];
+};
+
+struct detail refusal_detail(const struct walked *w, const uint8_t *bytes);
 
 /* The tag whose two numbers stand here. */
 uint32_t tag_at(const uint8_t *p);
