@@ -114,7 +114,8 @@ static enum outcome show_answer(const struct gateway *g, uint32_t returned, uint
 /* The rules as this program reads them must give what the archive answered. */
 static enum outcome report_difference(uint32_t returned, uint32_t status, const struct reason *r)
 {
-    printf("gateway: returned %u with status %04XH, and the reason found is for %u with %04XH: %s: please report this dump\n",
+    printf("gateway: returned %u with status %04XH, and the reason found is for %u with %04XH: %s: "
+           "please report this dump\n",
            (unsigned)returned, (unsigned)status, (unsigned)r->returned, (unsigned)r->status, r->text);
     return NOT_EXPLAINED;
 }
@@ -123,9 +124,9 @@ enum outcome feed_gateway(struct gateway *g, const uint8_t *fragment, size_t len
 {
     uint8_t before[GATEWAY_RECORDS];
     memcpy(before, g->records, sizeof before);
-    uint32_t returned = gateway_feed(g->records, sizeof g->records, g->message, g->message_length, fragment, length,
-                                     g->command, sizeof g->command, g->data, sizeof g->data, g->report,
-                                     sizeof g->report);
+    uint32_t returned =
+        gateway_feed(g->records, sizeof g->records, g->message, g->message_length, fragment, length, g->command,
+                     sizeof g->command, g->data, sizeof g->data, g->report, sizeof g->report);
     uint32_t status = returned == GATEWAY_RESPONSE ? (uint32_t)number_at(g->report + GATEWAY_REPORT_STATUS, 2) : 0;
     explain_feed(before, g->message, fragment, length, r);
     if (r->returned != returned || r->status != status)

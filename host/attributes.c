@@ -105,8 +105,8 @@ static void judge_code(const struct list *l, struct attribute a, const char *con
             return;
         snprintf(allowed + strlen(allowed), sizeof allowed - strlen(allowed), "%s%s", i == 0 ? "" : ", ", words[i]);
     }
-    find_fault(f, NOT_ALLOWED, "%s %s is none of %s (rule %s)", name(a.tag).text, quote(v.bytes, v.length).text, allowed,
-               a.rule);
+    find_fault(f, NOT_ALLOWED, "%s %s is none of %s (rule %s)", name(a.tag).text, quote(v.bytes, v.length).text,
+               allowed, a.rule);
 }
 
 /* A US; false where there is none of two bytes. */
@@ -249,7 +249,8 @@ static void judge_format(const struct list *l, struct findings *f)
     f->boxes = boxes_of(v);
     if (f->boxes == 0)
         find_fault(f, NOT_ALLOWED,
-                   "%s %s is not STANDARD\\C,R with C and R 1 to 6, nor ROW\\ or COL\\ with 1 to 6 numbers 1 to 6 (rule 7.2)",
+                   "%s %s is not STANDARD\\C,R with C and R 1 to 6, nor ROW\\ or COL\\ with 1 to 6 numbers 1 to 6 "
+                   "(rule 7.2)",
                    name(format.tag).text, quote(v.bytes, v.length).text);
 }
 
@@ -345,7 +346,8 @@ static void judge_pixels(const struct list *item, uint64_t product, struct findi
     struct value v;
     uint64_t wanted = product + product % 2;
     if (given(item, &pixels, false, &v, f) && product > 0 && v.length != wanted)
-        find_fault(f, NOT_ALLOWED, "%s has %zu bytes, and rows by columns by bytes a pixel make %" PRIu64 " (rule 7.10)",
+        find_fault(f, NOT_ALLOWED,
+                   "%s has %zu bytes, and rows by columns by bytes a pixel make %" PRIu64 " (rule 7.10)",
                    name(pixels.tag).text, v.length, wanted);
 }
 

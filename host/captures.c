@@ -100,8 +100,10 @@ static void tell_apart(const struct dump *d, struct capture *c)
         c->content = DATA_SET;
         c->why = "it begins with an element";
     } else {
-        stop("%s: at offset %zXH: neither a PDU, a fragment, a command set nor a data set begins here; -p, -f, -c or -d "
-             "says which it is", d->name, d->first);
+        stop(
+            "%s: at offset %zXH: neither a PDU, a fragment, a command set nor a data set begins here; -p, -f, -c or -d "
+            "says which it is",
+            d->name, d->first);
     }
 }
 
@@ -181,7 +183,7 @@ static void split_pdus(struct capture *c, struct left l)
 static void make_fragment(struct capture *c, const struct left *l)
 {
     uint32_t n = (uint32_t)l->n + 2;
-    uint8_t header[FRAGMENT_HEADER] = { (uint8_t)(n >> 24), (uint8_t)(n >> 16), (uint8_t)(n >> 8), (uint8_t)n, 1,
+    uint8_t header[FRAGMENT_HEADER] = { (uint8_t)(n >> 24),    (uint8_t)(n >> 16), (uint8_t)(n >> 8), (uint8_t)n, 1,
                                         COMMAND_BIT | LAST_BIT };
     c->made = malloc(FRAGMENT_HEADER + l->n);
     if (c->made == NULL)

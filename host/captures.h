@@ -17,9 +17,9 @@ struct capture_part {
     enum part_kind kind;
     const uint8_t *bytes;
     size_t n;
-    size_t dump_at; /* where it begins, by the dump's own count */
-    const char *why; /* of a part that is not readable */
-    bool of_response; /* a fragment that the console did not send: it is never fed */
+    size_t dump_at;      /* where it begins, by the dump's own count */
+    const char *why;     /* of a part that is not readable */
+    bool of_response;    /* a fragment that the console did not send: it is never fed */
     uint64_t numbers[3]; /* of start: serial and picture; of open: context, syntax and the message buffer's length */
 };
 

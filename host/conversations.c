@@ -22,7 +22,7 @@ struct conversation {
     struct uid root;
     uint32_t serial, picture, syntax;
     unsigned fragments, messages;
-    bool opened; /* an association was opened since the last A-ASSOCIATE-RQ; of a trace: always */
+    bool opened;               /* an association was opened since the last A-ASSOCIATE-RQ; of a trace: always */
     uint32_t answered, status; /* the last message ID that the gateway answered, and its status */
     struct reason reason;
     enum outcome worst;
@@ -57,6 +57,12 @@ enum outcome show_read(const char *what, const struct pieces *set, uint32_t synt
         return NOT_EXPLAINED;
     }
     return refusal == READ ? FINE : FAILED;
+}
+
+static void show_whole(struct conversation *c, const char *what, struct pieces *set, uint32_t syntax)
+{
+    note(c, show_read(what, set, syntax));
+    empty_pieces(set);
 }
 
 /* Starting and opening. */
@@ -122,8 +128,21 @@ static void open(struct conversation *c, const struct capture_part *p)
     c->opened = true;
 }
 
+/* What is not whole where the dump or the association ends. */
+static void finish(struct conversation *c)
+{
+    if (!is_open(c->gateway) || is_idle(c->gateway))
+        return;
+    if (c->command.set.n > 0)
+        show_whole(c, "command set, not whole,", &c->command, GATEWAY_IMPLICIT);
+    if (c->data.set.n > 0)
+        show_whole(c, "data set, not whole,", &c->data, c->syntax);
+    printf("gateway: waits: %s\n", c->reason.text);
+}
+
 static void close_open(struct conversation *c, const char *why)
 {
+    finish(c);
     if (!is_open(c->gateway))
         return;
     printf("close: %s\n", why);
@@ -139,19 +158,13 @@ static void show_fragment(struct conversation *c, const struct capture_part *p)
         printf("%zu bytes, no header\n", p->n);
         return;
     }
-    printf("context %u, %s%s, %zu bytes\n", p->bytes[4], is_command(p) ? "command" : "data",
-           is_last(p) ? ", last" : "", p->n - FRAGMENT_HEADER);
+    printf("context %u, %s%s, %zu bytes\n", p->bytes[4], is_command(p) ? "command" : "data", is_last(p) ? ", last" : "",
+           p->n - FRAGMENT_HEADER);
 }
 
 static void collect(struct pieces *set, const struct capture_part *p)
 {
     put_piece(set, p->bytes + FRAGMENT_HEADER, p->n - FRAGMENT_HEADER, p->dump_at + FRAGMENT_HEADER);
-}
-
-static void show_whole(struct conversation *c, const char *what, struct pieces *set, uint32_t syntax)
-{
-    note(c, show_read(what, set, syntax));
-    empty_pieces(set);
 }
 
 /* What a response of the capture says, and where it is not what the gateway asked here says. */
@@ -225,8 +238,7 @@ static void show_request_part(struct conversation *c, const struct capture_part 
 
 static bool begins_message(const struct conversation *c, const struct capture_part *p)
 {
-    return !p->of_response && header_is_sound(p) && is_command(p) &&
-           (is_idle(c->gateway) || is_in_data(c->gateway));
+    return !p->of_response && header_is_sound(p) && is_command(p) && (is_idle(c->gateway) || is_in_data(c->gateway));
 }
 
 static void feed(struct conversation *c, const struct capture_part *p)
@@ -293,7 +305,9 @@ static void go_through_pdu(struct conversation *c, const struct capture_part *p)
 /* A call of a trace, other than feed. */
 static void make_call(struct conversation *c, const struct capture_part *p)
 {
-    static const char *const calls[] = { [A_START] = "start", [AN_OPEN] = "open", [A_CLOSE] = "close", [A_TAKE] = "take" };
+    static const char *const calls[] = {
+        [A_START] = "start", [AN_OPEN] = "open", [A_CLOSE] = "close", [A_TAKE] = "take"
+    };
     uint32_t n;
     if (p->kind == A_START)
         n = start_gateway(c->gateway, p->bytes, p->n, (uint32_t)p->numbers[0], (uint32_t)p->numbers[1]);
@@ -330,18 +344,6 @@ static void go_through_part(struct conversation *c, const struct capture_part *p
     default:
         make_call(c, p);
     }
-}
-
-/* What is not whole at the end of the dump. */
-static void finish(struct conversation *c)
-{
-    if (!is_open(c->gateway) || is_idle(c->gateway))
-        return;
-    if (c->command.set.n > 0)
-        show_whole(c, "command set, not whole,", &c->command, GATEWAY_IMPLICIT);
-    if (c->data.set.n > 0)
-        show_whole(c, "data set, not whole,", &c->data, c->syntax);
-    printf("gateway: waits: %s\n", c->reason.text);
 }
 
 static void learn(struct conversation *c)

@@ -1,6 +1,6 @@
-/* Shows what stands in a dump, and says what the gateway would do with it: docs/FIELD.md. The exit status is 0 where all
- * was read and nothing failed; 1 where a set was refused, a message dropped or cut off, or a failure answered; 2 where
- * the dump cannot be read, the arguments are wrong, or an answer was not explained. */
+/* Shows what stands in a dump, and says what the gateway would do with it: docs/FIELD.md. The exit status is 0 where
+ * all was read and nothing failed; 1 where a set was refused, a message dropped or cut off, or a failure answered; 2
+ * where the dump cannot be read, the arguments are wrong, or an answer was not explained. */
 #include <errno.h>
 #include <getopt.h>
 #include <stdio.h>
@@ -14,14 +14,10 @@
 enum { AS = 256, ALONE, ROOT_OF, SERIAL, PICTURE, CONTEXT, BUFFER };
 
 static const struct option options[] = {
-    { "as", required_argument, NULL, AS },
-    { "alone", no_argument, NULL, ALONE },
-    { "root", required_argument, NULL, ROOT_OF },
-    { "serial", required_argument, NULL, SERIAL },
-    { "picture", required_argument, NULL, PICTURE },
-    { "context", required_argument, NULL, CONTEXT },
-    { "buffer", required_argument, NULL, BUFFER },
-    { NULL, 0, NULL, 0 },
+    { "as", required_argument, NULL, AS },           { "alone", no_argument, NULL, ALONE },
+    { "root", required_argument, NULL, ROOT_OF },    { "serial", required_argument, NULL, SERIAL },
+    { "picture", required_argument, NULL, PICTURE }, { "context", required_argument, NULL, CONTEXT },
+    { "buffer", required_argument, NULL, BUFFER },   { NULL, 0, NULL, 0 },
 };
 
 struct arguments {
@@ -108,7 +104,8 @@ static void heed_option(int option, const char *word, struct arguments *a)
 static bool is_root(const char *root)
 {
     struct uid uid;
-    return root == NULL || (strlen(root) <= GATEWAY_ROOT_MOST && uid_of_value((const uint8_t *)root, strlen(root), &uid));
+    return root == NULL ||
+           (strlen(root) <= GATEWAY_ROOT_MOST && uid_of_value((const uint8_t *)root, strlen(root), &uid));
 }
 
 static struct arguments read_arguments(int argc, char **argv)
@@ -131,8 +128,8 @@ static enum outcome decode_data_set(const struct dump *d, uint32_t given)
     struct pieces set = new_pieces(d->bytes.n + 1);
     put_piece(&set, d->bytes.bytes, d->bytes.n, d->first);
     if (given == 0)
-        printf("%s VR, guessed: %s VR stands behind the first tag\n", syntax == GATEWAY_EXPLICIT ? "explicit" : "implicit",
-               syntax == GATEWAY_EXPLICIT ? "a" : "no");
+        printf("%s VR, guessed: %s VR stands behind the first tag\n",
+               syntax == GATEWAY_EXPLICIT ? "explicit" : "implicit", syntax == GATEWAY_EXPLICIT ? "a" : "no");
     enum outcome outcome = show_read("data set", &set, syntax);
     if (outcome == FAILED)
         puts("gateway: 0110H, check 5, for a request that it comes with, unless an earlier check applies (rule 6.5)");

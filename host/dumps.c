@@ -103,7 +103,8 @@ static void refuse_other_files(const char *name, const struct data_set *text)
     if (is_utf_16(text))
         stop("%s: at offset 0: text in UTF-16; save it as UTF-8, or give --as binary", name);
     if (is_packet_capture(text))
-        stop("%s: at offset 0: a capture of packets; in Wireshark follow its TCP stream, show it raw and save that", name);
+        stop("%s: at offset 0: a capture of packets; in Wireshark follow its TCP stream, show it raw and save that",
+             name);
 }
 
 /* To the first line that is neither empty nor a comment. */

@@ -39,11 +39,8 @@ static const struct {
 
 enum class { VERIFICATION, SESSION, FILM, BOX, UNKNOWN_CLASS };
 
-static enum class class_of(const struct uid *uid)
-{
-    for (size_t i = 0; i < UNKNOWN_CLASS; i++)
-        if (strcmp(classes[i].uid, uid->text) == 0)
-            return (enum class)i;
+static enum class class_of(const struct uid *uid) {
+    for (size_t i = 0; i < UNKNOWN_CLASS; i++) if (strcmp(classes[i].uid, uid->text) == 0) return (enum class)i;
     return UNKNOWN_CLASS;
 }
 
@@ -167,8 +164,7 @@ static void explain_new_session(const struct asked *a, const struct list *l, str
     if (!no_faults(&f, r))
         return;
     if (session_lives(a->records)) {
-        answer(r, 0x0213, 9, "session %s is live, and there is one at a time (rule 6.9)",
-               session_uid(a->records).text);
+        answer(r, 0x0213, 9, "session %s is live, and there is one at a time (rule 6.9)", session_uid(a->records).text);
         return;
     }
     if (serials_left(a, a->request.sent ? 0 : 1, r))
@@ -351,7 +347,8 @@ static void explain_read(const struct asked *a, enum class class, const struct l
 static void explain_data(const struct asked *a, enum class class, struct reason *r)
 {
     if (a->too_long) {
-        answer(r, 0x0213, 4, "the data set is longer than the message buffer, which has %" PRIu64 " bytes (rules 6.4, 4.10)",
+        answer(r, 0x0213, 4,
+               "the data set is longer than the message buffer, which has %" PRIu64 " bytes (rules 6.4, 4.10)",
                number_at(a->records + GATEWAY_AT_ROOM, 4));
         return;
     }
@@ -369,8 +366,8 @@ static void explain_data(const struct asked *a, enum class class, struct reason 
 static void explain_request(const struct asked *a, struct reason *r)
 {
     const struct request *q = &a->request;
-    const char *name = field_name(q->field), *class_name = uid_name((const uint8_t *)q->class_uid.text,
-                                                                    strlen(q->class_uid.text));
+    const char *name = field_name(q->field),
+               *class_name = uid_name((const uint8_t *)q->class_uid.text, strlen(q->class_uid.text));
     enum class class = class_of(&q->class_uid);
     if (q->operation == UNKNOWN_FIELD)
         answer(r, 0x0211, 1, "Command Field %04XH%s%s is none of the five operations (rule 6.1)", (unsigned)q->field,
@@ -461,7 +458,8 @@ static void explain_data_fragment(const uint8_t *records, const uint8_t *message
     if ((p[5] & 2) == 0)
         return;
     a.too_long = state == SKIPPING_DATA || n > room - got;
-    if (read_request(records + GATEWAY_AT_COMMAND, (size_t)number_at(records + GATEWAY_AT_USED, 2), &a.request, &unused))
+    if (read_request(records + GATEWAY_AT_COMMAND, (size_t)number_at(records + GATEWAY_AT_USED, 2), &a.request,
+                     &unused))
         explain_request(&a, r);
 }
 

@@ -97,8 +97,8 @@ static bool created_uid(const struct data_set *command, uint32_t field, struct u
     struct headers kept = keep_headers(command->bytes, command->n, false);
     struct list l = whole_list(&kept);
     const struct header *h = find_header(&l, AFFECTED_INSTANCE);
-    bool found = h != NULL && field_in(command->bytes, command->n) == field &&
-                 uid_of_value(value_of(&l, h), h->length, uid);
+    bool found =
+        h != NULL && field_in(command->bytes, command->n) == field && uid_of_value(value_of(&l, h), h->length, uid);
     free_headers(&kept);
     return found;
 }
@@ -147,8 +147,8 @@ uint32_t guess_set_syntax(const uint8_t *bytes, size_t n)
     return form_of((const char *)bytes + 4) != NULL ? GATEWAY_EXPLICIT : GATEWAY_IMPLICIT;
 }
 
-/* The first data fragment, of the capture or behind a command, is the beginning of a data set. Another association has its
- * own syntax. */
+/* The first data fragment, of the capture or behind a command, is the beginning of a data set. Another association has
+ * its own syntax. */
 uint32_t guess_syntax(const struct capture *c, size_t from, size_t *dump_at)
 {
     bool begins = true;

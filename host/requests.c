@@ -160,8 +160,8 @@ bool read_request(const uint8_t *command, size_t n, struct request *q, struct re
         say(r, "the command set is refused with %u at %zu: %s: %s (rule 5.%u)", (unsigned)h.walked.refusal, h.walked.at,
             refusal_text(h.walked.refusal), refusal_detail(&h.walked, command).text, (unsigned)h.walked.refusal);
     else
-        readable = in_group_zero(&l, r) && tells_its_length(&l, n, r) && read_numbers(&l, q, r) &&
-                   read_operation(&l, q, r);
+        readable =
+            in_group_zero(&l, r) && tells_its_length(&l, n, r) && read_numbers(&l, q, r) && read_operation(&l, q, r);
     free_headers(&h);
     return readable;
 }

@@ -12,7 +12,7 @@ struct request {
     bool data_comes;
     enum operation operation;
     struct uid class_uid;
-    struct uid instance; /* requested, or sent with N-CREATE */
+    struct uid instance;   /* requested, or sent with N-CREATE */
     bool sent, sent_sound; /* N-CREATE: a UID was sent, and keeps the rules of PS3.5 */
 };
 

@@ -7,15 +7,15 @@
 enum { OFFSET_LEAST = 4, OFFSET_MOST = 8, HALF_ROW = 8, ROW = 16 };
 
 /* What follows from the rows so far. Rows that are set in are those of the other direction in Wireshark's "Follow
-   stream": they have offsets of their own. */
+ * stream": they have offsets of their own. */
 struct rows {
     struct data_set *bytes;
-    uint64_t next[2];       /* the offset that follows, by direction */
+    uint64_t next[2]; /* the offset that follows, by direction */
     bool begun[2];
-    size_t most;            /* bytes that a row may have: those of the block's first one */
-    size_t row_at, row;     /* where the last row's bytes begin, and how many they are */
-    size_t first;           /* the offset of the first row */
-    bool repeats;           /* a * stands behind the last row */
+    size_t most;        /* bytes that a row may have: those of the block's first one */
+    size_t row_at, row; /* where the last row's bytes begin, and how many they are */
+    size_t first;       /* the offset of the first row */
+    bool repeats;       /* a * stands behind the last row */
 };
 
 static bool is_offset(const struct scan *s)
@@ -107,7 +107,8 @@ static void read_groups(struct scan *s, struct rows *r)
     }
 }
 
-/* In a row of xxd that is not filled up with blanks, the text must not contradict the bytes: those of xxd -e are swapped. */
+/* In a row of xxd that is not filled up with blanks, the text must not contradict the bytes: those of xxd -e are
+ * swapped. */
 static void compare_text(struct scan *s, const struct rows *r)
 {
     struct scan end = *s;
@@ -121,7 +122,8 @@ static void compare_text(struct scan *s, const struct rows *r)
             refuse_text(s, "the text is not that of the bytes: they are swapped (xxd -e), or the dump was changed");
 }
 
-/* Whether bytes go on behind these blanks: after one, or after two in the middle of a row; behind others the text stands. */
+/* Whether bytes go on behind these blanks: after one, or after two in the middle of a row. Behind others the text
+ * stands. */
 static bool bytes_go_on(const struct scan *s, const struct rows *r, size_t blanks)
 {
     return blanks == 1 || (blanks == 2 && r->row == HALF_ROW && digits_here(s) == 2);
@@ -135,8 +137,10 @@ static void read_single_bytes(struct scan *s, struct rows *r)
         refuse_text(s, "no blank behind the offset");
     while (!at_line_end(s) && (r->row == 0 || bytes_go_on(s, r, blanks))) {
         if (digits_here(s) > 2)
-            refuse_text(s, "a group of %zu digits: hexdump without -C and od -tx2 swap bytes; take hexdump -C or "
-                           "od -Ax -tx1 (or --as hex where no row has an offset)", digits_here(s));
+            refuse_text(s,
+                        "a group of %zu digits: hexdump without -C and od -tx2 swap bytes; take hexdump -C or "
+                        "od -Ax -tx1 (or --as hex where no row has an offset)",
+                        digits_here(s));
         put_row_byte(s, r);
         blanks = skip_blanks(s);
         if (blanks == 0 && !at_line_end(s))

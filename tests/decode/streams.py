@@ -173,6 +173,8 @@ CASES = [
         "gateway: cut off: the message before has no last fragment of its data set, and is not answered (rule 4.4)\n",
         "gateway: 0000H: echoed\n"]),
     ("not whole", fragment(1, 1, ECHO[:20]), [], 1, ["command set, not whole, of 20 bytes", "gateway: waits: the last fragment"]),
+    ("released within a message", pdu(DATA, fragment(1, 1, ECHO[:12])) + pdu(RELEASE_RQ), [], 0, [
+        "gateway: waits: the last fragment of the command set must follow (rule 4.12)\nclose: the association is released\n"]),
     ("rejected and aborted", pdu(ASSOCIATE_RJ, bytes([0, 1, 1, 7])) + pdu(ABORT, bytes([0, 0, 2, 1])), [], 0, [
         "A-ASSOCIATE-RJ at 0H, 10 bytes, result 1, source 1, reason 7\n", "A-ABORT at AH, 10 bytes, source 2, reason 1\n"]),
 ]
