@@ -3,7 +3,7 @@
 #include <stdio.h>
 #include <stdlib.h>
 
-#include "../../host/show.h"
+#include "../../host/decoder/show.h"
 #include "../../include/inspect.h"
 #include "../walks/noise.h"
 

@@ -5,7 +5,7 @@
 #include <stdio.h>
 #include <string.h>
 
-#include "data_sets.h"
+#include "../data_sets.h"
 
 enum { MISSING = 0x0120, EMPTY = 0x0121, NOT_ALLOWED = 0x0106 };
 

@@ -2,7 +2,7 @@
 #ifndef ARRAYS_H
 #define ARRAYS_H
 
-#include "data_sets.h"
+#include "../data_sets.h"
 #include "scanning.h"
 
 /* Puts the numbers between braces, of one array or of several; of a text without braces, all of it. */

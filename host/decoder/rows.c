@@ -2,7 +2,7 @@
 
 #include <inttypes.h>
 
-#include "hex.h"
+#include "../hex.h"
 
 enum { OFFSET_LEAST = 4, OFFSET_MOST = 8, HALF_ROW = 8, ROW = 16 };
 

@@ -2,7 +2,7 @@
 #ifndef PIECES_H
 #define PIECES_H
 
-#include "data_sets.h"
+#include "../data_sets.h"
 
 /* A piece: where it begins in the set and in the dump. */
 struct piece {

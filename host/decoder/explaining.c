@@ -4,9 +4,9 @@
 #include <stdio.h>
 #include <string.h>
 
-#include "../include/gateway.h"
+#include "../../include/gateway.h"
 #include "attributes.h"
-#include "data_sets.h"
+#include "../data_sets.h"
 #include "names.h"
 #include "requests.h"
 

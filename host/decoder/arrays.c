@@ -1,6 +1,6 @@
 #include "arrays.h"
 
-#include "hex.h"
+#include "../hex.h"
 
 static bool here(const struct scan *s, const char *two)
 {

@@ -2,7 +2,7 @@
 #ifndef ROWS_H
 #define ROWS_H
 
-#include "data_sets.h"
+#include "../data_sets.h"
 #include "scanning.h"
 
 /* Whether the line here is such a row: an offset of 4 to 8 digits, and a colon or bytes that are written otherwise. */

@@ -4,7 +4,7 @@
 #include <stdlib.h>
 #include <string.h>
 
-#include "data_sets.h"
+#include "../data_sets.h"
 #include "dumps.h"
 #include "explaining.h"
 #include "names.h"

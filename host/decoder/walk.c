@@ -4,7 +4,7 @@
 #include <stdio.h>
 #include <string.h>
 
-#include "data_sets.h"
+#include "../data_sets.h"
 
 #define ITEM_TAG 0xFFFEE000u
 #define ITEM_END_TAG 0xFFFEE00Du

@@ -3,8 +3,8 @@
 #include <inttypes.h>
 #include <string.h>
 
-#include "../include/gateway.h"
-#include "data_sets.h"
+#include "../../include/gateway.h"
+#include "../data_sets.h"
 #include "headers.h"
 
 enum {

@@ -2,7 +2,7 @@
 #ifndef ASKING_H
 #define ASKING_H
 
-#include "../include/gateway.h"
+#include "../../include/gateway.h"
 #include "live.h"
 #include "reasons.h"
 

@@ -2,7 +2,7 @@
 #ifndef DUMPS_H
 #define DUMPS_H
 
-#include "data_sets.h"
+#include "../data_sets.h"
 
 enum dump_kind { TOLD_APART, BINARY, HEX, ROWS, ESCAPES, ARRAYS, TRACE };
 

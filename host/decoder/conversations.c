@@ -4,7 +4,7 @@
 #include <stdlib.h>
 #include <string.h>
 
-#include "../include/inspect.h"
+#include "../../include/inspect.h"
 #include "learning.h"
 #include "names.h"
 #include "pdus.h"

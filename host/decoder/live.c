@@ -4,8 +4,8 @@
 #include <stdio.h>
 #include <string.h>
 
-#include "../include/gateway.h"
-#include "data_sets.h"
+#include "../../include/gateway.h"
+#include "../data_sets.h"
 
 /* Digits up to a dot or the end, at least one, and no leading zero but 0 itself; 0 where it is not so. */
 static size_t component(const uint8_t *text, size_t length)

@@ -4,7 +4,7 @@
 #include <stdio.h>
 #include <stdlib.h>
 
-#include "hex.h"
+#include "../hex.h"
 
 struct scan scan_text(const char *name, const uint8_t *text, size_t n)
 {

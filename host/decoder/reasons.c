@@ -3,7 +3,7 @@
 #include <stdarg.h>
 #include <stdio.h>
 
-#include "../include/gateway.h"
+#include "../../include/gateway.h"
 
 enum { QUOTED_MOST = 36 };
 

@@ -3,7 +3,7 @@
 #include <stdio.h>
 #include <string.h>
 
-#include "../include/gateway.h"
+#include "../../include/gateway.h"
 #include "captures.h"
 #include "names.h"
 

@@ -3,7 +3,7 @@
 #include <stdlib.h>
 #include <string.h>
 
-#include "../include/gateway.h"
+#include "../../include/gateway.h"
 #include "headers.h"
 #include "pdus.h"
 #include "requests.h"
