@@ -6,8 +6,8 @@
 
 enum { OFFSET_LEAST = 4, OFFSET_MOST = 8, HALF_ROW = 8, ROW = 16 };
 
-/* What follows from the rows so far. Rows that are set in are those of the other direction in Wireshark's "Follow
- * stream": they have offsets of their own. */
+/* What follows from the rows so far. Rows that are set in are those of the other direction, where Wireshark follows a
+ * stream: they have offsets of their own. */
 struct rows {
     struct data_set *bytes;
     uint64_t next[2]; /* the offset that follows, by direction */
@@ -74,7 +74,7 @@ static void heed_offset(const struct scan *s, struct rows *r, uint64_t offset, i
     if (r->begun[direction] && offset == 0)
         r->most = 0;
     else if (r->begun[direction] && offset != r->next[direction])
-        refuse_text(s, "the offset is %" PRIX64 ", and %" PRIX64 " follows", offset, r->next[direction]);
+        refuse_text(s, "the offset is %" PRIX64 "H, and %" PRIX64 "H follows", offset, r->next[direction]);
     if (!r->begun[direction] && r->bytes->n > 0 && offset != 0)
         refuse_text(s, "the first offset of rows that are set in is not 0");
     r->begun[direction] = true;
