@@ -342,7 +342,7 @@ static uint32_t judge_bits(const struct list *item, struct findings *f)
 /* Rule 7.10: where the product is odd, a byte of padding follows. */
 static void judge_pixels(const struct list *item, uint64_t product, struct findings *f)
 {
-    struct attribute pixels = { 0x7FE00010, true, "7.10" };
+    struct attribute pixels = { 0x7FE00010, true, "7.9" };
     struct value v;
     uint64_t wanted = product + product % 2;
     if (given(item, &pixels, false, &v, f) && product > 0 && v.length != wanted)

@@ -114,7 +114,7 @@ static uint32_t choose_syntax(const struct conversation *c, uint8_t context, siz
     return guess_and_say(c, from);
 }
 
-static void open(struct conversation *c, const struct capture_part *p)
+static void open_association(struct conversation *c, const struct capture_part *p)
 {
     uint32_t context = c->wishes->context != 0 ? c->wishes->context : p->n > 4 ? p->bytes[4] : 1;
     printf("open: context %u, ", (unsigned)context);
@@ -140,7 +140,7 @@ static void finish(struct conversation *c)
     printf("gateway: waits: %s\n", c->reason.text);
 }
 
-static void close_open(struct conversation *c, const char *why)
+static void close_association(struct conversation *c, const char *why)
 {
     finish(c);
     if (!is_open(c->gateway))
@@ -266,7 +266,7 @@ static void go_through_fragment(struct conversation *c, const struct capture_par
     if (begins_message(c, p))
         begin_message(c);
     if (!c->opened)
-        open(c, p);
+        open_association(c, p);
     if (c->capture->content != COMMAND_SET)
         show_fragment(c, p);
     if (p->of_response) {
@@ -288,14 +288,14 @@ static void go_through_pdu(struct conversation *c, const struct capture_part *p)
     show_pdu(p->bytes, p->n, p->dump_at, &c->association);
     switch (p->bytes[0]) {
     case A_ASSOCIATE_RQ:
-        close_open(c, "another association begins");
+        close_association(c, "another association begins");
         c->opened = false;
         break;
     case A_RELEASE_RQ:
-        close_open(c, "the association is released");
+        close_association(c, "the association is released");
         break;
     case A_ABORT:
-        close_open(c, "the association is aborted");
+        close_association(c, "the association is aborted");
         break;
     default:
         break;

@@ -20,8 +20,8 @@ uint32_t __wrap_gateway_feed(uint8_t *records, size_t records_length, uint8_t *m
                              const uint8_t *fragment, size_t fragment_length, uint8_t *command, size_t command_length,
                              uint8_t *data, size_t data_length, uint8_t *report, size_t report_length)
 {
-    uint32_t n = __real_gateway_feed(records, records_length, message, message_length, fragment, fragment_length, command,
-                                     command_length, data, data_length, report, report_length);
+    uint32_t n = __real_gateway_feed(records, records_length, message, message_length, fragment, fragment_length,
+                                     command, command_length, data, data_length, report, report_length);
     if (n == GATEWAY_RESPONSE && lies("status"))
         report[GATEWAY_REPORT_STATUS] ^= 1;
     return n == GATEWAY_RESPONSE && lies("returned") ? GATEWAY_DROPPED : n;
