@@ -5,8 +5,8 @@
 #include <string.h>
 
 #include "../../include/gateway.h"
-#include "attributes.h"
 #include "../data_sets.h"
+#include "attributes.h"
 #include "names.h"
 #include "requests.h"
 
@@ -37,36 +37,23 @@ static const struct {
     { "1.2.840.10008.5.1.1.4", "Basic Grayscale Image Box", A_BOX },
 };
 
-enum class { VERIFICATION, SESSION, FILM, BOX, UNKNOWN_CLASS };
+enum sop_class { VERIFICATION, SESSION, FILM, BOX, UNKNOWN_CLASS };
 
-static enum class class_of(const struct uid *uid) {
-    for (size_t i = 0; i < UNKNOWN_CLASS; i++) if (strcmp(classes[i].uid, uid->text) == 0) return (enum class)i;
+static enum sop_class class_of(const struct uid *uid)
+{
+    for (size_t i = 0; i < UNKNOWN_CLASS; i++)
+        if (strcmp(classes[i].uid, uid->text) == 0)
+            return (enum sop_class)i;
     return UNKNOWN_CLASS;
 }
 
-static bool offers(enum class class, enum operation operation)
+static bool offers(enum sop_class class, enum operation operation)
 {
     if (class == VERIFICATION)
         return operation == C_ECHO;
     if (class == BOX)
         return operation == N_SET;
     return operation != C_ECHO;
-}
-
-/* Who is live, for one who asks after somebody else. */
-static void list_live(const uint8_t *records, char *text, size_t room)
-{
-    size_t at = 0;
-    if (!session_lives(records)) {
-        snprintf(text, room, "nothing is live");
-        return;
-    }
-    at += (size_t)snprintf(text, room, "live are session %s", session_uid(records).text);
-    for (size_t i = 0; i < film_count(records) && at < room; i++) {
-        size_t boxes = box_count(film_at(records, i));
-        at += (size_t)snprintf(text + at, room - at, ", film %s with boxes %s to %s", film_uid(records, i).text,
-                               box_uid(records, i, 0).text, box_uid(records, i, boxes - 1).text);
-    }
 }
 
 /* Check 6. */
@@ -90,8 +77,22 @@ static bool check_new_instance(const struct asked *a, struct reason *r)
     return false;
 }
 
+/* Who is live, for one who asks after somebody else. */
+static void say_not_live(const uint8_t *records, const struct uid *uid, struct reason *r)
+{
+    size_t films = film_count(records);
+    if (!session_lives(records))
+        answer(r, 0x0112, 6, "%s is not live (rule 6.6); nothing is", uid->text);
+    else
+        answer(r, 0x0112, 6, "%s is not live (rule 6.6); session %s is, with %zu film%s", uid->text,
+               session_uid(records).text, films, films == 1 ? "" : "s");
+    for (size_t i = 0; i < films; i++)
+        say_also(r, "film %s is live, with boxes %s to %s", film_uid(records, i).text, box_uid(records, i, 0).text,
+                 box_uid(records, i, box_count(film_at(records, i)) - 1).text);
+}
+
 /* What check 8 would find in an N-SET were its instance live: of a message alone nothing is. */
-static void judge_all_the_same(enum class class, const struct list *l, struct reason *r)
+static void judge_all_the_same(enum sop_class class, const struct list *l, struct reason *r)
 {
     struct findings f = { 0 };
     if (class == SESSION)
@@ -104,23 +105,17 @@ static void judge_all_the_same(enum class class, const struct list *l, struct re
         say_also(r, "were it live, check 8 would give %04XH: %s", (unsigned)f.status, f.faults[i].text);
 }
 
-static bool check_instance(const struct asked *a, enum class class, struct instance *named, struct reason *r)
+static bool check_instance(const struct asked *a, enum sop_class class, struct instance *named, struct reason *r)
 {
     static const char *const called[] = { "nobody", "the session", "a film", "an image box" };
     const struct uid *uid = &a->request.instance;
-    char live[REASON_MOST / 2];
     *named = instance_named(a->records, uid);
-    if (named->living == NOBODY) {
-        list_live(a->records, live, sizeof live);
-        answer(r, 0x0112, 6, "%s is not live (rule 6.6); %s", uid->text, live);
-        return false;
-    }
-    if (named->living != classes[class].living) {
+    if (named->living == NOBODY)
+        say_not_live(a->records, uid, r);
+    else if (named->living != classes[class].living)
         answer(r, 0x0119, 6, "%s is %s, not of the class %s (rule 6.6)", uid->text, called[named->living],
                classes[class].name);
-        return false;
-    }
-    return true;
+    return named->living == classes[class].living;
 }
 
 /* Check 8: the first fault with the status that counts, and the others beside it. */
@@ -298,7 +293,7 @@ static void explain_print_film(const struct asked *a, size_t film, struct reason
 }
 
 /* Checks 7 to 11 of an operation on a live instance. */
-static void explain_use(const struct asked *a, enum class class, const struct instance *named, const struct list *l,
+static void explain_use(const struct asked *a, enum sop_class class, const struct instance *named, const struct list *l,
                         struct reason *r)
 {
     const struct request *q = &a->request;
@@ -319,7 +314,7 @@ static void explain_use(const struct asked *a, enum class class, const struct in
 }
 
 /* Checks 6 to 11 of a request that names an instance. */
-static void explain_named(const struct asked *a, enum class class, const struct list *l, struct reason *r)
+static void explain_named(const struct asked *a, enum sop_class class, const struct list *l, struct reason *r)
 {
     struct instance named;
     if (check_instance(a, class, &named, r))
@@ -329,7 +324,7 @@ static void explain_named(const struct asked *a, enum class class, const struct 
 }
 
 /* Checks 6 to 11 of a data set that is read. */
-static void explain_read(const struct asked *a, enum class class, const struct list *l, struct reason *r)
+static void explain_read(const struct asked *a, enum sop_class class, const struct list *l, struct reason *r)
 {
     if (a->request.operation == C_ECHO)
         answer(r, 0x0000, 0, "echoed");
@@ -344,7 +339,7 @@ static void explain_read(const struct asked *a, enum class class, const struct l
 }
 
 /* Checks 4 and 5. */
-static void explain_data(const struct asked *a, enum class class, struct reason *r)
+static void explain_data(const struct asked *a, enum sop_class class, struct reason *r)
 {
     if (a->too_long) {
         answer(r, 0x0213, 4,
@@ -368,7 +363,7 @@ static void explain_request(const struct asked *a, struct reason *r)
     const struct request *q = &a->request;
     const char *name = field_name(q->field),
                *class_name = uid_name((const uint8_t *)q->class_uid.text, strlen(q->class_uid.text));
-    enum class class = class_of(&q->class_uid);
+    enum sop_class class = class_of(&q->class_uid);
     if (q->operation == UNKNOWN_FIELD)
         answer(r, 0x0211, 1, "Command Field %04XH%s%s is none of the five operations (rule 6.1)", (unsigned)q->field,
                name == NULL ? "" : ", ", name == NULL ? "" : name);

@@ -5,7 +5,8 @@
 #include <stddef.h>
 #include <stdint.h>
 
-enum { REASON_MOST = 640, REASONS_MOST = 16 };
+/* A film's line for each of eight films, and a fault's for each of eleven attributes, are not more. */
+enum { REASON_MOST = 512, REASONS_MOST = 20 };
 
 struct reason {
     uint32_t returned; /* GATEWAY_RESPONSE, GATEWAY_DROPPED .. */

@@ -141,10 +141,10 @@ CASES = [
         "start: root 1.2.3, next serial 1,", "gateway: 0000H: session 1.2.3.1 created\n",
         "0106H, check 8: Referenced SOP Instance UID (0008,1155) is 1.9.7.100, not 1.2.3.1, the live session (rule 7.3)",
         "where the gateway asked here answered 0106H",
-        "0112H, check 6: 1.9.7.102 is not live (rule 6.6); live are session 1.2.3.1 [no such SOP instance]"]),
+        "0112H, check 6: 1.9.7.102 is not live (rule 6.6); session 1.2.3.1 is, with 0 films [no such SOP instance]"]),
     ("each message alone", association(), ["--alone"], 1, [
         "gateway: 0000H: session 1.9.7.100 created\n", "and no session is live (rule 7.3)",
-        "gateway: 0112H, check 6: 1.9.7.103 is not live (rule 6.6); nothing is live [no such SOP instance]\n"
+        "gateway: 0112H, check 6: 1.9.7.103 is not live (rule 6.6); nothing is [no such SOP instance]\n"
         "         also: were it live, check 8 would give 0106H: Pixel Data (7FE0,0010) has 126 bytes"]),
     ("as given", association(), ["-i"], 1, ["open: context 1, implicit VR, as given\n", "gateway: 0110H, check 5"]),
     ("a small buffer", pdu(DATA, fragment(1, 3, request(N_CREATE, SESSION, 1)) + fragment(1, 2, bytes(4098))),
