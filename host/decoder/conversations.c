@@ -41,6 +41,14 @@ static const char *vr_text(uint32_t syntax)
     return syntax == GATEWAY_EXPLICIT ? "explicit VR" : "implicit VR";
 }
 
+/* A console may send the other syntax than the one that was negotiated. */
+static void show_other_syntax(const struct pieces *set, uint32_t syntax)
+{
+    uint32_t other = syntax == GATEWAY_EXPLICIT ? GATEWAY_IMPLICIT : GATEWAY_EXPLICIT;
+    if (inspect_data_set(set->set.bytes, set->set.n, other) == READ)
+        printf("(in %s it would be read whole)\n", vr_text(other));
+}
+
 enum outcome show_read(const char *what, const struct pieces *set, uint32_t syntax)
 {
     printf("%s of %zu bytes, %s\n", what, set->set.n, vr_text(syntax));
@@ -56,6 +64,8 @@ enum outcome show_read(const char *what, const struct pieces *set, uint32_t synt
         printf("what is shown ends with %u: please report this dump\n", (unsigned)walked.refusal);
         return NOT_EXPLAINED;
     }
+    if (refusal != READ)
+        show_other_syntax(set, syntax);
     return refusal == READ ? FINE : FAILED;
 }
 

@@ -146,7 +146,8 @@ CASES = [
         "gateway: 0000H: session 1.9.7.100 created\n", "and no session is live (rule 7.3)",
         "gateway: 0112H, check 6: 1.9.7.103 is not live (rule 6.6); nothing is [no such SOP instance]\n"
         "         also: were it live, check 8 would give 0106H: Pixel Data (7FE0,0010) has 126 bytes"]),
-    ("as given", association(), ["-i"], 1, ["open: context 1, implicit VR, as given\n", "gateway: 0110H, check 5"]),
+    ("as given", association(), ["-i"], 1, [
+        "open: context 1, implicit VR, as given\n", "(in explicit VR it would be read whole)\ngateway: 0110H, check 5"]),
     ("a small buffer", pdu(DATA, fragment(1, 3, request(N_CREATE, SESSION, 1)) + fragment(1, 2, bytes(4098))),
      ["--buffer", "4096"], 1, ["0213H, check 4: the data set is longer than the message buffer, which has 4096 bytes"]),
     ("group length", pdu(DATA, fragment(1, 3, OTHER_LENGTH)), [], 1, ["gateway: dropped: group length 999, 56 follow (rule 6.12)\n"]),
