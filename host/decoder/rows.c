@@ -119,7 +119,8 @@ static void compare_text(struct scan *s, const struct rows *r)
     step(s);
     for (size_t i = 0; i < r->row && !at_line_end(s); i++, step(s))
         if (peek(s) != '.' && peek(s) != r->bytes->bytes[r->row_at + i])
-            refuse_text(s, "the text is not that of the bytes: they are swapped (xxd -e), or the dump was changed");
+            refuse_text(s, "the text is not that of the bytes: they are swapped (xxd -e), or the dump was changed; "
+                           "without its text it is read as it stands");
 }
 
 /* Whether bytes go on behind these blanks: after one, or after two in the middle of a row. Behind others the text
