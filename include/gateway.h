@@ -9,9 +9,10 @@
  * number returned.
  *
  * What the host owes:
- *   - every length is the true length of its buffer;
+ *   - every length is the true length of its buffer, and no pointer is NULL, even where the length is 0;
  *   - buffers of one call do not overlap;
- *   - the records and, while open, the message buffer are handed back as the call before left them.
+ *   - the records and, while open, the message buffer are handed back as the call before left them;
+ *   - calls on the same records are made one after another.
  * Each call tests its own arguments all the same: records that no run of calls can have left are refused (1) where they
  * break a rule, and nothing past the end of a buffer is read or written, whatever its bytes are. */
 #ifndef GATEWAY_H
@@ -87,8 +88,9 @@ uint32_t gateway_open(uint8_t *records, size_t records_length, const uint8_t *me
 
 /* Hands over one fragment, a presentation data value as PS3.8 has it: its length in four bytes, big endian, the context
  * byte, the control byte, and what it carries. Command, data and report are written by GATEWAY_RESPONSE alone: the host
- * sends the command set and, unless its length is 0, the data set. The pixels of a picture stand in the message buffer
- * until the next feed: the host stores them under the number. */
+ * sends the command set and, unless its length is 0, the data set. A request's data set lies in the message buffer from
+ * its start when the response is returned, until the next feed; so do the pixels of a picture, which the host stores
+ * under the number. */
 uint32_t gateway_feed(uint8_t *records, size_t records_length, uint8_t *message, size_t message_length,
                       const uint8_t *fragment, size_t fragment_length, uint8_t *command, size_t command_length,
                       uint8_t *data, size_t data_length, uint8_t *report, size_t report_length);

@@ -79,7 +79,7 @@ archive() {
         return 1
     fi
     if ! prove_and_build "$1"; then
-        echo "$0: $built is not built. The kit here is $(rt version); README.md says with which the crates are proved" >&2
+        echo "$0: $built is not built. The kit here is $(rt version)" >&2
         return 1
     fi
 }
