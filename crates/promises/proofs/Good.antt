@@ -224,10 +224,10 @@ unfolding layoutFormat
 good-layout l e z =
     let t = layout-facts l e in
     let counts =
-        good-array byte 6 (l .counts) z
-        (each-join Byte (l .lines) (l .counts)
-        (each-told Byte (between 1 6) (λ x h. let most = between-true 1 6 x h .1 in omega arith) (take (l .lines) (l .counts)) (t .counts))
-        (zero-bytes (drop (l .lines) (l .counts)) (t .behind))) in
+    good-array byte 6 (l .counts) z
+    (each-join Byte (l .lines) (l .counts)
+    (each-told Byte (between 1 6) (λ x h. let most = between-true 1 6 x h .1 in omega arith) (take (l .lines) (l .counts)) (t .counts))
+    (zero-bytes (drop (l .lines) (l .counts)) (t .behind))) in
     search arith
 
 -- Pictures and boxes.
@@ -269,10 +269,10 @@ good-film n f h k own e z =
     let name = good-name n (f .name) h (t .name) (z .name) in
     let layout = good-layout (f .layout) (t .layout) (z .counts) in
     let boxes =
-        good-array boxFormat mostBoxes (f .boxes) (z .boxes)
-        (each-join (boxFormat .Good) count (f .boxes)
-        (each-told (boxFormat .Good) (boxSound count n) (λ b s. good-box count n b (some .1) k s) (take count (f .boxes)) (t .boxes))
-        (each-told (boxFormat .Good) boxBlank good-no-box (drop count (f .boxes)) (t .behind))) in
+    good-array boxFormat mostBoxes (f .boxes) (z .boxes)
+    (each-join (boxFormat .Good) count (f .boxes)
+    (each-told (boxFormat .Good) (boxSound count n) (λ b s. good-box count n b (some .1) k s) (take count (f .boxes)) (t .boxes))
+    (each-told (boxFormat .Good) boxBlank good-no-box (drop count (f .boxes)) (t .behind))) in
     search arith
 
 pub good-no-film : (f : Film) → filmBlank f ≡ true → FilmSized f → filmFormat .Good f
