@@ -3,7 +3,7 @@ the table of docs/CONFORMANCE.md has, in each request that it names."""
 import re
 import sys
 
-ROW = re.compile(r"^\| [^|]+ \| \(([0-9A-F]{4}),([0-9A-F]{4})\) \| (\w\w) \| ([^|]+) \| [^|]* \| U/- \|$", re.M)
+ROW = re.compile(r"^\| [^|]+ \| \(([0-9A-F]{4}),([0-9A-F]{4})\) \| (\w\w) \| ([^|]+) \|[^|]*\| U/- \|$", re.M)
 LONG = {"OB", "OF", "OW", "SQ", "UN", "UT"}
 ITEM = 0xFFFEE000
 # Any value of each VR will do: an imager's own code, a number out of its range, an item.
@@ -95,7 +95,10 @@ def named(text):
 
 def main():
     with open(sys.argv[1], encoding="utf-8") as document:
-        rows = ROW.findall(document.read())
+        text = document.read()
+    rows = ROW.findall(text)
+    if len(rows) != text.count("| U/- |\n"):
+        sys.exit("a row of an attribute that is passed over cannot be read")
     for explicit in (False, True):
         run(explicit)
         print("keep")
