@@ -50,6 +50,7 @@ static const struct form forms[27] = {
 struct source {
     const uint8_t *bytes;
     bool explicit_vr;
+    struct plain_stop *stop;
 };
 
 /* What stands under a header: a value, or a sequence's items, or an item's list. It ends at stop, or before it at a
@@ -143,6 +144,12 @@ static bool closes(const struct source *s, size_t *at, const struct part *part, 
     return true;
 }
 
+/* Says where a header is at fault; room is how many more sequences may stand in one another there. */
+static uint32_t refuse(const struct source *s, size_t at, int room, uint32_t fault) {
+    *s->stop = (struct plain_stop){at, (uint32_t)(DEPTH - room)};
+    return fault;
+}
+
 static uint32_t read_list(const struct source *s, size_t *at, const struct part *list, int room);
 
 /* The items of a sequence; room is how many more sequences may stand in them. */
@@ -151,7 +158,8 @@ static uint32_t read_items(const struct source *s, size_t *at, const struct part
     while (!closes(s, at, sequence, SEQUENCE_END)) {
         struct part item;
         uint32_t fault = item_header(s, *at, sequence->stop, &item);
-        if (fault == READ) fault = read_list(s, at, &item, room);
+        if (fault != READ) return refuse(s, *at, room, fault);
+        fault = read_list(s, at, &item, room);
         if (fault != READ) return fault;
     }
     return READ;
@@ -164,22 +172,22 @@ static uint32_t read_list(const struct source *s, size_t *at, const struct part 
     while (!closes(s, at, list, ITEM_END)) {
         struct part part;
         uint32_t fault = element_header(s, *at, list->stop, floor, &part);
-        if (fault != READ) return fault;
+        if (fault != READ) return refuse(s, *at, room, fault);
         floor = (uint64_t)tag_at(s->bytes + *at) + 1;
         if (!part.sequence) {
             *at = part.stop;
             continue;
         }
-        if (room == 0) return TOO_DEEP;
+        if (room == 0) return refuse(s, *at, room, TOO_DEEP);
         fault = read_items(s, at, &part, room - 1);
         if (fault != READ) return fault;
     }
     return READ;
 }
 
-uint32_t plain_data_set(const uint8_t *bytes, size_t n, uint32_t syntax) {
+uint32_t plain_data_set(const uint8_t *bytes, size_t n, uint32_t syntax, struct plain_stop *stop) {
     if (syntax != 1 && syntax != 2) return BAD_SYNTAX;
-    struct source s = {bytes, syntax == 2};
+    struct source s = {bytes, syntax == 2, stop};
     struct part whole = {0, n, false, false};
     size_t at = 0;
     return read_list(&s, &at, &whole, DEPTH);

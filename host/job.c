@@ -122,7 +122,16 @@ static void show_response(size_t command_length)
         printf("  %.*s", (int)instance.length, (const char *)instance.value);
 }
 
-/* What a request that was done asks of the host. The pixels stand in the message buffer until the next feed. */
+/* A data set could not be read: what field service looks up in a dump of it (docs/FIELD.md). */
+static void show_stop(void)
+{
+    uint32_t refusal = (uint32_t)number_at(report + GATEWAY_REPORT_REFUSAL, 4);
+    uint32_t place = (uint32_t)number_at(report + GATEWAY_REPORT_STOP, 4);
+    uint32_t depth = (uint32_t)number_at(report + GATEWAY_REPORT_DEPTH, 4);
+    printf("  reading stopped with %u at %u, depth %u", (unsigned)refusal, (unsigned)place, (unsigned)depth);
+}
+
+/* What a response asks of the host. The pixels stand in the message buffer until the next feed. */
 static void heed_note(void)
 {
     uint32_t films = (uint32_t)number_at(report + GATEWAY_REPORT_FILMS, 4);
@@ -137,6 +146,9 @@ static void heed_note(void)
     case GATEWAY_NOTE_PICTURE:
         store_picture(picture, message + place, length);
         printf("  picture %u of %u bytes", (unsigned)picture, (unsigned)length);
+        break;
+    case GATEWAY_NOTE_STOPPED:
+        show_stop();
         break;
     default:
         break;

@@ -131,6 +131,11 @@ static void put_response(const uint8_t *command, const uint8_t *data, const uint
                (unsigned)number_at(report + GATEWAY_REPORT_PLACE, 4),
                (unsigned)number_at(report + GATEWAY_REPORT_LENGTH, 4));
         break;
+    case GATEWAY_NOTE_STOPPED:
+        printf(" stopped %u %u %u\n", (unsigned)number_at(report + GATEWAY_REPORT_REFUSAL, 4),
+               (unsigned)number_at(report + GATEWAY_REPORT_STOP, 4),
+               (unsigned)number_at(report + GATEWAY_REPORT_DEPTH, 4));
+        break;
     default:
         puts(" another note");
     }

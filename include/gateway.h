@@ -31,9 +31,9 @@ extern "C" {
  * it was packed from. A host is compiled and linked with the same: where GATEWAY_VERSION and gateway_version differ,
  * places in the records may. */
 #define GATEWAY_VERSION_MAJOR 0
-#define GATEWAY_VERSION_MINOR 4
+#define GATEWAY_VERSION_MINOR 5
 #define GATEWAY_VERSION_PATCH 0
-#define GATEWAY_VERSION "0.4.0"
+#define GATEWAY_VERSION "0.5.0"
 extern const char gateway_version[], gateway_commit[];
 
 /* How many bytes each buffer has at least; the records have GATEWAY_RECORDS. More may be lent: bytes past those written
@@ -71,7 +71,8 @@ enum {
 enum {
     GATEWAY_NOTE_NONE = 0,
     GATEWAY_NOTE_QUEUED = 1, /* films were queued */
-    GATEWAY_NOTE_PICTURE = 2 /* a box was filled: its pixels are to be stored */
+    GATEWAY_NOTE_PICTURE = 2, /* a box was filled: its pixels are to be stored */
+    GATEWAY_NOTE_STOPPED = 3  /* the data set could not be read: 0110H */
 };
 
 /* Fresh records, not open, with an empty queue. The root is a UID of 1 to 40 characters, without padding: instances
@@ -105,7 +106,10 @@ enum {
     GATEWAY_REPORT_FILMS = 8,   /* how many films were queued */
     GATEWAY_REPORT_PICTURE = 8, /* the picture's number, */
     GATEWAY_REPORT_PLACE = 12,  /* the place of its pixels in the message buffer, */
-    GATEWAY_REPORT_LENGTH = 16  /* and how many bytes they have, padding left out */
+    GATEWAY_REPORT_LENGTH = 16, /* and how many bytes they have, padding left out */
+    GATEWAY_REPORT_REFUSAL = 8, /* the reader's refusal, 1 to 7, */
+    GATEWAY_REPORT_STOP = 12,   /* the place of the header at fault, from the data set's start, */
+    GATEWAY_REPORT_DEPTH = 16   /* and how many sequences that header lies in, 0 to 4 */
 };
 
 /* Ends the association: session, films, boxes and a message half collected go, the queue and the next numbers stay. */

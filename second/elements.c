@@ -97,6 +97,19 @@ struct part whole_list(const uint8_t *bytes, size_t length, enum syntax syntax)
     return list;
 }
 
+/* The header at a place of a list, or between the items of a sequence, is at fault. */
+static struct refusal refuse(int number, const struct part *around, size_t at)
+{
+    struct refusal refusal = { number, at, around->depth };
+    return refusal;
+}
+
+static struct refusal no_refusal(void)
+{
+    struct refusal refusal = { 0, 0, 0 };
+    return refusal;
+}
+
 /* What a header says of the bytes after it. */
 struct extent {
     size_t header; /* its own bytes */
@@ -164,11 +177,13 @@ static void read_implicit(const uint8_t *header, const struct named *row, struct
 }
 
 /* The header at a place of a list; `before` is the tag before it, -1 for none. The refusals in
-   order: 1 cut short, 6, 3, 4, 5, 2, 1 past the end, 7. */
+   order: 1 cut short, 6, 3, 4, 5, 2, 1 past the end, 7. Only a list of undefined length is read on
+   where no bytes are left: "a missing delimiter is a cut header" (R-4). */
 static int read_header(const struct part *list, size_t at, int64_t before, struct element *e)
 {
     const uint8_t *header = list->bytes + at;
     size_t left = list->to - at;
+    CHECK(left == 0, 1, "reader 1: item delimiter missing");
     CHECK(left < 8, 1, "reader 1: header cut short of 8 bytes");
     e->tag = tag_at(header);
     e->closes = false;
@@ -179,31 +194,34 @@ static int read_header(const struct part *list, size_t at, int64_t before, struc
         return read_delimiter(list, at, e);
     CHECK((int64_t)e->tag <= before, 3, "reader 3: tag not above the one before");
     const struct named *row = named(e->tag);
-    int refusal = has_vr ? judge_vr(row, header) : 0;
-    if (refusal != 0)
-        return refusal;
+    int number = has_vr ? judge_vr(row, header) : 0;
+    if (number != 0)
+        return number;
     struct extent x;
     if (has_vr)
         read_explicit(header, &x);
     else
         read_implicit(header, row, &x);
-    refusal = judge_length(list, at + x.header, &x);
-    if (refusal != 0)
-        return refusal;
+    number = judge_length(list, at + x.header, &x);
+    if (number != 0)
+        return number;
     CHECK(x.sequence && list->depth == DEEPEST, 7, "reader 7: a fifth nested sequence");
     e->sequence = x.sequence;
     set_value(e, list, at + x.header, &x);
     return 0;
 }
 
-static int read_items(const struct part *sequence, size_t *next);
+static struct refusal read_items(const struct part *sequence, size_t *next);
 
 /* An element of a list: its header, and the items that a sequence element holds. */
-static int read_element(const struct part *list, size_t at, int64_t before, struct element *e)
+static struct refusal read_element(const struct part *list, size_t at, int64_t before,
+                                   struct element *e)
 {
-    int refusal = read_header(list, at, before, e);
-    if (refusal != 0 || e->closes || !e->sequence)
-        return refusal;
+    int number = read_header(list, at, before, e);
+    if (number != 0)
+        return refuse(number, list, at);
+    if (e->closes || !e->sequence)
+        return no_refusal();
     if (e->value.undefined)
         COVER("sequence of undefined length");
     else
@@ -212,10 +230,11 @@ static int read_element(const struct part *list, size_t at, int64_t before, stru
     return read_items(&e->value, &e->next);
 }
 
-/* What stands between items: an item with its list, or the closing delimiter. */
-static int read_item(const struct part *sequence, size_t at, struct element *item)
+/* The header between items: an item's, or the closing delimiter. */
+static int read_item_header(const struct part *sequence, size_t at, struct element *item)
 {
     const uint8_t *header = sequence->bytes + at;
+    CHECK(sequence->to == at, 1, "reader 1: sequence delimiter missing");
     CHECK(sequence->to - at < 8, 1, "reader 1: cut short between items");
     item->tag = tag_at(header);
     item->closes = false;
@@ -230,56 +249,67 @@ static int read_item(const struct part *sequence, size_t at, struct element *ite
     CHECK(item->tag == SEQUENCE_DELIMITER, 6, "reader 6: delimiter in a sequence of defined length");
     CHECK(item->tag != ITEM, 6, "reader 6: neither item nor delimiter between items");
     struct extent x = { 8, length, length == UNDEFINED, true };
-    int refusal = judge_length(sequence, at + 8, &x);
-    if (refusal != 0)
-        return refusal;
+    int number = judge_length(sequence, at + 8, &x);
+    if (number != 0)
+        return number;
     if (x.undefined)
         COVER("item of undefined length");
     else
         COVER("item of defined length");
     set_value(item, sequence, at + 8, &x);
+    return 0;
+}
+
+/* What stands between items: an item with its list, or the closing delimiter. */
+static struct refusal read_item(const struct part *sequence, size_t at, struct element *item)
+{
+    int number = read_item_header(sequence, at, item);
+    if (number != 0)
+        return refuse(number, sequence, at);
+    if (item->closes)
+        return no_refusal();
     return read_list(&item->value, &item->next);
 }
 
-static int read_items(const struct part *sequence, size_t *next)
+static struct refusal read_items(const struct part *sequence, size_t *next)
 {
     size_t at = sequence->from;
     bool closed = false;
     while (!closed && (sequence->undefined || at < sequence->to)) {
         struct element item;
-        int refusal = read_item(sequence, at, &item);
-        if (refusal != 0)
+        struct refusal refusal = read_item(sequence, at, &item);
+        if (refusal.number != 0)
             return refusal;
         at = item.next;
         closed = item.closes;
     }
     *next = at;
-    return 0;
+    return no_refusal();
 }
 
-int read_list(const struct part *list, size_t *next)
+struct refusal read_list(const struct part *list, size_t *next)
 {
     size_t at = list->from;
     int64_t before = -1;
     bool closed = false;
     while (!closed && (list->undefined || at < list->to)) {
         struct element e;
-        int refusal = read_element(list, at, before, &e);
-        if (refusal != 0)
+        struct refusal refusal = read_element(list, at, before, &e);
+        if (refusal.number != 0)
             return refusal;
         at = e.next;
         before = e.tag;
         closed = e.closes;
     }
     *next = at;
-    return 0;
+    return no_refusal();
 }
 
 bool find_first(const struct part *list, struct element *found)
 {
     if (!list->undefined && list->from == list->to)
         return false;
-    return read_element(list, list->from, -1, found) == 0 && !found->closes;
+    return read_element(list, list->from, -1, found).number == 0 && !found->closes;
 }
 
 bool find(const struct part *list, uint32_t tag, struct element *found)
@@ -299,7 +329,7 @@ size_t count_items(const struct part *sequence, struct part *first)
     size_t count = 0;
     while (sequence->undefined || at < sequence->to) {
         struct element item;
-        if (read_item(sequence, at, &item) != 0 || item.closes)
+        if (read_item(sequence, at, &item).number != 0 || item.closes)
             break;
         if (count++ == 0)
             *first = item.value;

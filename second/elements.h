@@ -33,8 +33,15 @@ struct element {
 
 struct part whole_list(const uint8_t *bytes, size_t length, enum syntax syntax);
 
-/* Reads the list to its end: 0, or the reader's refusal 1 to 7. */
-int read_list(const struct part *list, size_t *next);
+/* The reader's refusal: "number, place and depth". */
+struct refusal {
+    int number;   /* 1 to 7; 0: nothing is refused, and the rest says nothing */
+    size_t place; /* of the first byte of the header at fault, or where a cut one should begin */
+    int depth;    /* the sequences that this header lies in */
+};
+
+/* Reads the list to its end, or to the first header at fault. */
+struct refusal read_list(const struct part *list, size_t *next);
 
 /* In a list that has been read: its first element, and the element of this tag. */
 bool find_first(const struct part *list, struct element *found);

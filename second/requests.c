@@ -108,7 +108,7 @@ bool read_command(const uint8_t *bytes, size_t length, struct request *q)
     size_t next;
     uint16_t type;
     memset(q, 0, sizeof *q);
-    CHECK(read_list(&list, &next) != 0, false, "unreadable: refused by the reader");
+    CHECK(read_list(&list, &next).number != 0, false, "unreadable: refused by the reader");
     CHECK(!all_in_group_0000(&list), false, "unreadable: element outside group 0000");
     CHECK(!begins_with_group_length(&list), false, "unreadable: group length");
     if (!need_number(&list, TAG(0x0000, 0x0100), &q->field) ||
@@ -148,13 +148,68 @@ static bool offers(enum class class, enum operation operation)
     return false;
 }
 
-/* What a request that is done leaves to be told. */
+/* What a request leaves to be told: one that is done, or one that check 5 fails. */
 struct outcome {
     struct uid created;
     const struct film *created_film; /* NULL: no data set */
     enum note note;
     uint32_t note_numbers[3];
 };
+
+/* Number and depth as two digits: each number at each depth that it can have. The fifth sequence,
+   7, lies in four. */
+static void cover_refusal(const struct refusal *refusal)
+{
+    switch (refusal->number * 10 + refusal->depth) {
+    case 10: COVER("stopped: refusal 1 at depth 0"); break;
+    case 11: COVER("stopped: refusal 1 at depth 1"); break;
+    case 12: COVER("stopped: refusal 1 at depth 2"); break;
+    case 13: COVER("stopped: refusal 1 at depth 3"); break;
+    case 14: COVER("stopped: refusal 1 at depth 4"); break;
+    case 20: COVER("stopped: refusal 2 at depth 0"); break;
+    case 21: COVER("stopped: refusal 2 at depth 1"); break;
+    case 22: COVER("stopped: refusal 2 at depth 2"); break;
+    case 23: COVER("stopped: refusal 2 at depth 3"); break;
+    case 24: COVER("stopped: refusal 2 at depth 4"); break;
+    case 30: COVER("stopped: refusal 3 at depth 0"); break;
+    case 31: COVER("stopped: refusal 3 at depth 1"); break;
+    case 32: COVER("stopped: refusal 3 at depth 2"); break;
+    case 33: COVER("stopped: refusal 3 at depth 3"); break;
+    case 34: COVER("stopped: refusal 3 at depth 4"); break;
+    case 40: COVER("stopped: refusal 4 at depth 0"); break;
+    case 41: COVER("stopped: refusal 4 at depth 1"); break;
+    case 42: COVER("stopped: refusal 4 at depth 2"); break;
+    case 43: COVER("stopped: refusal 4 at depth 3"); break;
+    case 44: COVER("stopped: refusal 4 at depth 4"); break;
+    case 50: COVER("stopped: refusal 5 at depth 0"); break;
+    case 51: COVER("stopped: refusal 5 at depth 1"); break;
+    case 52: COVER("stopped: refusal 5 at depth 2"); break;
+    case 53: COVER("stopped: refusal 5 at depth 3"); break;
+    case 54: COVER("stopped: refusal 5 at depth 4"); break;
+    case 60: COVER("stopped: refusal 6 at depth 0"); break;
+    case 61: COVER("stopped: refusal 6 at depth 1"); break;
+    case 62: COVER("stopped: refusal 6 at depth 2"); break;
+    case 63: COVER("stopped: refusal 6 at depth 3"); break;
+    case 64: COVER("stopped: refusal 6 at depth 4"); break;
+    case 74: COVER("stopped: refusal 7 at depth 4"); break;
+    }
+}
+
+/* "The host's note on a check 5 response carries number, place and depth." */
+static uint16_t check_5(const struct part *list, struct outcome *o)
+{
+    size_t next;
+    struct refusal refusal = read_list(list, &next);
+    if (refusal.number == 0)
+        return 0;
+    cover_refusal(&refusal);
+    o->note = READING_STOPPED;
+    o->note_numbers[0] = (uint32_t)refusal.number;
+    o->note_numbers[1] = (uint32_t)refusal.place;
+    o->note_numbers[2] = (uint32_t)refusal.depth;
+    COVER("check 5: 0110H data unreadable");
+    return 0x0110;
+}
 
 static uint16_t check_6_create(const struct records *r, const struct request *q)
 {
@@ -329,19 +384,20 @@ static uint16_t use_instance(struct records *r, const struct request *q, enum cl
 static uint16_t decide(struct records *r, const struct request *q, const struct data_set *d,
                        struct outcome *o)
 {
-    size_t next;
     CHECK(q->operation == UNKNOWN_FIELD, 0x0211, "check 1: 0211H unknown field");
     enum class class = class_of(&q->class_uid);
     CHECK(class == UNKNOWN_CLASS, 0x0118, "check 2: 0118H unknown class");
     CHECK(!offers(class, q->operation), 0x0211, "check 3: 0211H class lacks the operation");
     CHECK(d->too_long, 0x0213, "check 4: 0213H data too long");
     struct part list = whole_list(d->bytes, d->length, d->syntax);
-    CHECK(read_list(&list, &next) != 0, 0x0110, "check 5: 0110H data unreadable");
+    uint16_t status = check_5(&list, o);
+    if (status != 0)
+        return status;
     if (q->operation == C_ECHO) {
         COVER("done: C-ECHO");
         return 0x0000;
     }
-    uint16_t status = q->operation == N_CREATE ? check_6_create(r, q) : check_6_live(r, q, class);
+    status = q->operation == N_CREATE ? check_6_create(r, q) : check_6_live(r, q, class);
     if (status != 0)
         return status;
     if (q->operation != N_CREATE)

@@ -33,12 +33,12 @@ struct data_set {
     enum syntax syntax;
 };
 
-enum note { NO_NOTE, FILMS_QUEUED, PICTURE };
+enum note { NO_NOTE, FILMS_QUEUED, PICTURE, READING_STOPPED };
 
 struct response {
     uint16_t status;
     enum note note;
-    uint32_t note_numbers[3]; /* films queued; or picture, place and length */
+    uint32_t note_numbers[3]; /* films queued; picture, place, length; refusal, place, depth */
     size_t command_length;
     uint8_t command[COMMAND_ANSWER_MOST];
     size_t data_length;

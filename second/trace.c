@@ -112,6 +112,11 @@ static void reply_done(int refusal)
         printf("refused %d\n", refusal);
 }
 
+static void put_note(const char *name, const uint32_t numbers[3])
+{
+    printf(" %s %" PRIu32 " %" PRIu32 " %" PRIu32 "\n", name, numbers[0], numbers[1], numbers[2]);
+}
+
 static void reply_response(const struct response *r)
 {
     printf("response %04x ", (unsigned)r->status);
@@ -121,10 +126,8 @@ static void reply_response(const struct response *r)
     switch (r->note) {
     case NO_NOTE: puts(" none"); break;
     case FILMS_QUEUED: printf(" queued %" PRIu32 "\n", r->note_numbers[0]); break;
-    case PICTURE:
-        printf(" picture %" PRIu32 " %" PRIu32 " %" PRIu32 "\n", r->note_numbers[0],
-               r->note_numbers[1], r->note_numbers[2]);
-        break;
+    case PICTURE: put_note("picture", r->note_numbers); break;
+    case READING_STOPPED: put_note("stopped", r->note_numbers); break;
     }
 }
 

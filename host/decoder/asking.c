@@ -8,6 +8,7 @@
 #include "dumps.h"
 #include "explaining.h"
 #include "names.h"
+#include "stops.h"
 
 struct gateway *new_gateway(void)
 {
@@ -120,6 +121,30 @@ static enum outcome report_difference(uint32_t returned, uint32_t status, const 
     return NOT_EXPLAINED;
 }
 
+/* Where the reading stopped, by the note of a response. */
+static struct stopped stopped_by_note(const uint8_t *report)
+{
+    if (number_at(report + GATEWAY_REPORT_NOTE, 2) != GATEWAY_NOTE_STOPPED)
+        return (struct stopped){ READ, 0, 0 };
+    return (struct stopped){ (uint32_t)number_at(report + GATEWAY_REPORT_REFUSAL, 4),
+                             (size_t)number_at(report + GATEWAY_REPORT_STOP, 4),
+                             (uint32_t)number_at(report + GATEWAY_REPORT_DEPTH, 4) };
+}
+
+/* The note of a stop comes with check 5 alone, and with what the reason found. */
+static bool note_fits(const uint8_t *report, const struct reason *r)
+{
+    bool noted = number_at(report + GATEWAY_REPORT_NOTE, 2) == GATEWAY_NOTE_STOPPED;
+    return noted == (r->stopped.refusal != READ) && same_stop(stopped_by_note(report), r->stopped);
+}
+
+static enum outcome report_other_note(const uint8_t *report, const struct reason *r)
+{
+    printf("gateway: %04XH; by its note the data set is %s, and the reason found is: %s: please report this dump\n",
+           (unsigned)r->status, stop_words(stopped_by_note(report)).text, r->text);
+    return NOT_EXPLAINED;
+}
+
 enum outcome feed_gateway(struct gateway *g, const uint8_t *fragment, size_t length, struct reason *r)
 {
     uint8_t before[GATEWAY_RECORDS];
@@ -131,6 +156,8 @@ enum outcome feed_gateway(struct gateway *g, const uint8_t *fragment, size_t len
     explain_feed(before, g->message, fragment, length, r);
     if (r->returned != returned || r->status != status)
         return report_difference(returned, status, r);
+    if (returned == GATEWAY_RESPONSE && !note_fits(g->report, r))
+        return report_other_note(g->report, r);
     enum outcome outcome = show_answer(g, returned, status, r);
     for (size_t i = 0; i < r->also_count; i++)
         printf("         also: %s\n", r->also[i]);

@@ -10,6 +10,7 @@
 #include "pdus.h"
 #include "requests.h"
 #include "show.h"
+#include "stops.h"
 
 #define ROOT "1.9.7"
 
@@ -41,12 +42,38 @@ static const char *vr_text(uint32_t syntax)
     return syntax == GATEWAY_EXPLICIT ? "explicit VR" : "implicit VR";
 }
 
+/* What the proved reader says. */
+static struct stopped ask_reader(const struct data_set *set, uint32_t syntax)
+{
+    uint8_t stop[INSPECT_STOP] = { 0 };
+    uint32_t refusal = inspect_data_set(set->bytes, set->n, syntax, stop, sizeof stop);
+    return (struct stopped){ refusal, (size_t)number_at(stop + INSPECT_STOP_PLACE, 4),
+                             (uint32_t)number_at(stop + INSPECT_STOP_DEPTH, 4) };
+}
+
 /* A console may send the other syntax than the one that was negotiated. */
 static void show_other_syntax(const struct pieces *set, uint32_t syntax)
 {
     uint32_t other = syntax == GATEWAY_EXPLICIT ? GATEWAY_IMPLICIT : GATEWAY_EXPLICIT;
-    if (inspect_data_set(set->set.bytes, set->set.n, other) == READ)
+    if (ask_reader(&set->set, other).refusal == READ)
         printf("(in %s it would be read whole)\n", vr_text(other));
+}
+
+static void show_stop(const struct pieces *set, struct stopped s)
+{
+    if (s.refusal == READ)
+        puts("read whole");
+    else
+        printf("refused with %u at %zu, %zXH in the dump, %s: %s (rule 5.%u)\n", (unsigned)s.refusal, s.place,
+               place_in_dump(set, s.place), depth_words(s.depth).text, refusal_text(s.refusal), (unsigned)s.refusal);
+}
+
+/* What a header at fault lies in, and what was expected in its place. */
+static void show_expected(const struct walked *w)
+{
+    if (stopped_of(w).depth > 0)
+        printf("         within: %s\n", path_words(w).text);
+    printf("         expected: %s\n", expected_words(w).text);
 }
 
 enum outcome show_read(const char *what, const struct pieces *set, uint32_t syntax)
@@ -55,18 +82,17 @@ enum outcome show_read(const char *what, const struct pieces *set, uint32_t synt
     if (set->set.n > 0)
         puts("    dump       set");
     struct walked walked = show_set(set, syntax == GATEWAY_EXPLICIT);
-    uint32_t refusal = inspect_data_set(set->set.bytes, set->set.n, syntax);
-    if (refusal == READ)
-        puts("read whole");
-    else
-        printf("refused with %u: %s (rule 5.%u)\n", (unsigned)refusal, refusal_text(refusal), (unsigned)refusal);
-    if (walked.refusal != refusal) {
-        printf("what is shown ends with %u: please report this dump\n", (unsigned)walked.refusal);
+    struct stopped stopped = ask_reader(&set->set, syntax);
+    show_stop(set, stopped);
+    if (!same_stop(stopped, stopped_of(&walked))) {
+        printf("what is shown is %s: please report this dump\n", stop_words(stopped_of(&walked)).text);
         return NOT_EXPLAINED;
     }
-    if (refusal != READ)
-        show_other_syntax(set, syntax);
-    return refusal == READ ? FINE : FAILED;
+    if (stopped.refusal == READ)
+        return FINE;
+    show_expected(&walked);
+    show_other_syntax(set, syntax);
+    return FAILED;
 }
 
 static void show_whole(struct conversation *c, const char *what, struct pieces *set, uint32_t syntax)

@@ -9,6 +9,7 @@
 #include "attributes.h"
 #include "names.h"
 #include "requests.h"
+#include "stops.h"
 
 enum { HEADER = 6, COMMAND_MOST = 1024, SYNTAX_AT = GATEWAY_AT_CONTEXT + 1 };
 
@@ -349,9 +350,9 @@ static void explain_data(const struct asked *a, enum sop_class class, struct rea
     }
     struct headers h = keep_headers(a->data, a->data_length, a->records[SYNTAX_AT] == GATEWAY_EXPLICIT);
     struct list l = whole_list(&h);
+    r->stopped = stopped_of(&h.walked);
     if (h.walked.refusal != READ)
-        answer(r, 0x0110, 5, "refused with %u at %zu: %s: %s (rule 5.%u)", (unsigned)h.walked.refusal, h.walked.at,
-               refusal_text(h.walked.refusal), refusal_detail(&h.walked, a->data).text, (unsigned)h.walked.refusal);
+        answer(r, 0x0110, 5, "%s", refusal_words(&h.walked, a->data).text);
     else
         explain_read(a, class, &l, r);
     free_headers(&h);

@@ -2,16 +2,16 @@
 #ifndef REASONS_H
 #define REASONS_H
 
-#include <stddef.h>
-#include <stdint.h>
+#include "walk.h"
 
 /* A film's line for each of eight films, and a fault's for each of eleven attributes, are not more. */
 enum { REASON_MOST = 512, REASONS_MOST = 20 };
 
 struct reason {
-    uint32_t returned; /* GATEWAY_RESPONSE, GATEWAY_DROPPED .. */
-    uint32_t status;   /* of a response */
-    unsigned check;    /* that gave a status other than success; else 0 */
+    uint32_t returned;      /* GATEWAY_RESPONSE, GATEWAY_DROPPED .. */
+    uint32_t status;        /* of a response */
+    unsigned check;         /* that gave a status other than success; else 0 */
+    struct stopped stopped; /* where the reading stopped, of check 5 */
     char text[REASON_MOST];
     /* what else is wrong with the message, and did not decide */
     char also[REASONS_MOST][REASON_MOST];

@@ -6,6 +6,7 @@
 #include "../../include/gateway.h"
 #include "../data_sets.h"
 #include "headers.h"
+#include "stops.h"
 
 enum {
     GROUP_LENGTH = 0x00000000,
@@ -157,8 +158,7 @@ bool read_request(const uint8_t *command, size_t n, struct request *q, struct re
     bool readable = false;
     memset(q, 0, sizeof *q);
     if (h.walked.refusal != READ)
-        say(r, "the command set is refused with %u at %zu: %s: %s (rule 5.%u)", (unsigned)h.walked.refusal, h.walked.at,
-            refusal_text(h.walked.refusal), refusal_detail(&h.walked, command).text, (unsigned)h.walked.refusal);
+        say(r, "the command set is %s", refusal_words(&h.walked, command).text);
     else
         readable =
             in_group_zero(&l, r) && tells_its_length(&l, n, r) && read_numbers(&l, q, r) && read_operation(&l, q, r);

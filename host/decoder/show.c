@@ -5,6 +5,7 @@
 #include <string.h>
 
 #include "names.h"
+#include "stops.h"
 
 enum { TEXT_SHOWN = 64, BYTES_SHOWN = 16, NUMBERS_SHOWN = 8, REFUSED_SHOWN = 12 };
 
@@ -169,9 +170,9 @@ static void show_header(void *with, const struct header *h)
 /* A header that is refused: as many bytes of it as there are. */
 static void show_refused(const struct showing *s, const struct walked *w)
 {
-    show_place(s, w->at, w->depth);
+    show_place(s, w->at, w->header.depth);
     show_bytes(s->set->set.bytes + w->at, w->left < REFUSED_SHOWN ? w->left : REFUSED_SHOWN);
-    printf("  <- here: %s\n", refusal_detail(w, s->set->set.bytes).text);
+    printf("  <- here: %s\n", found_words(w, s->set->set.bytes).text);
 }
 
 struct walked show_set(const struct pieces *set, bool explicit_vr)

@@ -1,73 +1,32 @@
 #include "walk.h"
 
-#include <inttypes.h>
-#include <stdio.h>
 #include <string.h>
-
-#include "../data_sets.h"
-
-#define ITEM_TAG 0xFFFEE000u
-#define ITEM_END_TAG 0xFFFEE00Du
-#define SEQUENCE_END_TAG 0xFFFEE0DDu
-#define PIXEL_DATA 0x7FE00010u
-
-const char *refusal_text(uint32_t refusal)
-{
-    static const char *const texts[] = {
-        [READ] = "read whole",
-        [CUT] = "cut short, or a value goes past the end of what holds it",
-        [ODD] = "a length is odd",
-        [ORDER] = "a tag is not above the one before it",
-        [WRONG_VR] = "the VR is unknown or not the tag's, or the two bytes behind it are not zero",
-        [NOT_DEFINED] = "an undefined length where none is allowed",
-        [MISPLACED] = "an item or a delimiter that does not belong here, or no item where one must be",
-        [TOO_DEEP] = "a fifth sequence within sequences",
-    };
-    return refusal < sizeof texts / sizeof *texts ? texts[refusal] : "unknown";
-}
-
-static void detail_vr(const struct walked *w, const uint8_t *vr, char *text, size_t room)
-{
-    const struct named *row = named_tag(w->header.tag);
-    if (w->header.form == NULL)
-        snprintf(text, room, "the bytes %02X %02X are no VR", vr[0], vr[1]);
-    else if (w->header.size == 12 && number_at(vr + 2, 2) != 0)
-        snprintf(text, room, "behind %s stand %02X %02X", w->header.form->vr, vr[2], vr[3]);
-    else
-        snprintf(text, room, "%s, where the tag has %s", w->header.form->vr, row->vr);
-}
-
-struct detail refusal_detail(const struct walked *w, const uint8_t *bytes)
-{
-    struct detail d = { "" };
-    const struct header *h = &w->header;
-    if (w->refusal == CUT && (w->left < 8 || h->size > w->left))
-        snprintf(d.text, sizeof d.text, "%zu bytes are left for a header of %zu", w->left, h->size);
-    else if (w->refusal == CUT)
-        snprintf(d.text, sizeof d.text, "length %" PRIu32 ", %zu bytes are left", h->length, w->left - h->size);
-    else if (w->refusal == ODD)
-        snprintf(d.text, sizeof d.text, "length %" PRIu32, h->length);
-    else if (w->refusal == ORDER)
-        snprintf(d.text, sizeof d.text, "(%04X,%04X) behind (%04X,%04X)", (unsigned)(h->tag >> 16),
-                 (unsigned)(h->tag & 0xFFFF), (unsigned)((w->floor - 1) >> 16), (unsigned)((w->floor - 1) & 0xFFFF));
-    else if (w->refusal == WRONG_VR)
-        detail_vr(w, bytes + w->at + 4, d.text, sizeof d.text);
-    else
-        snprintf(d.text, sizeof d.text, "(%04X,%04X)", (unsigned)(h->tag >> 16), (unsigned)(h->tag & 0xFFFF));
-    return d;
-}
 
 uint32_t tag_at(const uint8_t *p)
 {
     return (uint32_t)(number_at(p, 2) << 16 | number_at(p + 2, 2));
 }
 
-/* The set that is walked, by whom, and how it ended. */
+/* Elements of an item lie in as many sequences as the item's own header. */
+struct stopped stopped_of(const struct walked *w)
+{
+    if (w->refusal == READ)
+        return (struct stopped){ READ, 0, 0 };
+    return (struct stopped){ w->refusal, w->at, (uint32_t)(w->header.depth + 1) / 2 };
+}
+
+bool same_stop(struct stopped a, struct stopped b)
+{
+    return a.refusal == b.refusal && a.place == b.place && a.depth == b.depth;
+}
+
+/* The set that is walked, by whom, the sequences that the walk is in, and how it ended. */
 struct source {
     const uint8_t *bytes;
     bool explicit_vr;
     visit *visit;
     void *with;
+    struct level path[LEVELS];
     struct walked walked;
 };
 
@@ -99,14 +58,17 @@ static bool read_explicit(const uint8_t *p, size_t left, struct header *h)
     return true;
 }
 
+bool is_vr_of(const struct named *row, const struct form *form)
+{
+    return strcmp(row->vr, form->vr) == 0 || (row->tag == PIXEL_DATA && strcmp(form->vr, "OB") == 0);
+}
+
 static bool vr_wrong(const uint8_t *p, const struct header *h)
 {
     const struct named *row = named_tag(h->tag);
     if (h->form == NULL || (h->size == 12 && number_at(p + 6, 2) != 0))
         return true;
-    if (h->tag == PIXEL_DATA && strcmp(h->form->vr, "OB") == 0)
-        return false;
-    return row != NULL && strcmp(row->vr, h->form->vr) != 0;
+    return row != NULL && !is_vr_of(row, h->form);
 }
 
 static uint32_t judge_length(uint32_t length, size_t left, bool may_be_undefined)
@@ -155,7 +117,8 @@ static uint32_t read_item(const struct source *s, const struct inside *in, struc
 
 static bool refuse(struct source *s, const struct inside *in, const struct header *h, uint64_t floor, uint32_t refusal)
 {
-    s->walked = (struct walked){ refusal, h->at, in->end - h->at, in->depth, *h, floor };
+    s->walked = (struct walked){ refusal, h->at, in->end - h->at, in->loose, *h, floor, { { 0 } } };
+    memcpy(s->walked.path, s->path, sizeof s->path);
     return false;
 }
 
@@ -184,12 +147,15 @@ static bool walk_list(struct source *s, size_t *at, const struct inside *in);
 
 static bool walk_items(struct source *s, size_t *at, const struct inside *in)
 {
+    struct level *level = &s->path[in->depth / 2];
     while (!ends(s, at, in, SEQUENCE_END)) {
         struct header h = { ITEM, 0, 0, NULL, *at, 8, in->depth };
         uint32_t refusal = read_item(s, in, &h);
         if (refusal != READ)
             return refuse(s, in, &h, 0, refusal);
         s->visit(s->with, &h);
+        level->items++;
+        level->item_at = h.at;
         *at += h.size;
         struct inside list = below_header(in, &h);
         if (!walk_list(s, at, &list))
@@ -211,9 +177,12 @@ static bool walk_list(struct source *s, size_t *at, const struct inside *in)
         floor = (uint64_t)h.tag + 1;
         *at += h.size;
         struct inside items = below_header(in, &h);
-        if (h.form->kind != SEQUENCE)
+        if (h.form->kind != SEQUENCE) {
             *at = items.end;
-        else if (!walk_items(s, at, &items))
+            continue;
+        }
+        s->path[in->depth / 2] = (struct level){ h.tag, h.at, 0, 0 };
+        if (!walk_items(s, at, &items))
             return false;
     }
     return true;
@@ -221,7 +190,7 @@ static bool walk_list(struct source *s, size_t *at, const struct inside *in)
 
 struct walked walk_set(const uint8_t *bytes, size_t n, bool explicit_vr, visit *visit, void *with)
 {
-    struct source s = { bytes, explicit_vr, visit, with, { .refusal = READ, .at = n } };
+    struct source s = { bytes, explicit_vr, visit, with, { { 0 } }, { .refusal = READ, .at = n } };
     struct inside whole = { n, false, 0 };
     size_t at = 0;
     walk_list(&s, &at, &whole);

@@ -6,9 +6,14 @@
 #include <stddef.h>
 #include <stdint.h>
 
+#include "../data_sets.h"
 #include "dictionary.h"
 
 #define UNDEFINED 0xFFFFFFFFu
+#define ITEM_TAG 0xFFFEE000u
+#define ITEM_END_TAG 0xFFFEE00Du
+#define SEQUENCE_END_TAG 0xFFFEE0DDu
+#define PIXEL_DATA 0x7FE00010u
 
 /* The refusals, by rule 5.1 to 5.7. */
 enum { READ = 0, CUT = 1, ODD = 2, ORDER = 3, WRONG_VR = 4, NOT_DEFINED = 5, MISPLACED = 6, TOO_DEEP = 7 };
@@ -25,28 +30,40 @@ struct header {
     int depth;
 };
 
+/* A sequence that the walk is in: where it begins, how many items of it have begun, and where the last of them did. */
+struct level {
+    uint32_t tag;
+    size_t at, items, item_at;
+};
+
 /* Where the walk ended: at the end of the set, or at the first header at fault. */
 struct walked {
     uint32_t refusal;
-    size_t at, left; /* of a refusal: the header's place, and the bytes up to the end of what holds it */
-    int depth;
-    struct header header; /* the one at fault, as far as it was read */
-    uint64_t floor;       /* the least tag that may stand there; 0 where any may */
+    size_t at, left;           /* of a refusal: the header's place, and the bytes up to the end of what holds it */
+    bool loose;                /* whether what holds it has an undefined length */
+    struct header header;      /* the one at fault, as far as it was read */
+    uint64_t floor;            /* the least tag that may stand there; 0 where any may */
+    struct level path[LEVELS]; /* the sequences that it lies in, the outermost first */
 };
+
+/* A refusal as the proved reader gives it: its number, the header's place, and how many sequences that lies in. All are
+ * 0 where a set is read whole. */
+struct stopped {
+    uint32_t refusal;
+    size_t place;
+    uint32_t depth;
+};
+
+struct stopped stopped_of(const struct walked *w);
+bool same_stop(struct stopped a, struct stopped b);
 
 typedef void visit(void *with, const struct header *h);
 
 /* Shows every header that is read to a visitor, in order. */
 struct walked walk_set(const uint8_t *bytes, size_t n, bool explicit_vr, visit *visit, void *with);
 
-/* What a refusal says; and what it is about, with the header's own numbers. */
-const char *refusal_text(uint32_t refusal);
-
-struct detail {
-    char text[128];
-};
-
-struct detail refusal_detail(const struct walked *w, const uint8_t *bytes);
+/* Whether a tag that the rules name may have this VR. */
+bool is_vr_of(const struct named *row, const struct form *form);
 
 /* The tag whose two numbers stand here. */
 uint32_t tag_at(const uint8_t *p);

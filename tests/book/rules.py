@@ -127,7 +127,7 @@ def try_said(there):
 def try_statuses(there):
     """The statuses of checks 1 to 11 are those that the definitions give."""
     text = definitions("rules/specs/Checks") + definitions("rules/specs/Attributes")
-    given = {"0000", *re.findall(r"(?:⇒|printedWith k|saysUnknown message field\)) 0x(\w{4})\b", text)}
+    given = {"0000", *re.findall(r"(?:⇒|printedWith k|saysUnknown message field\)|\(StoppedAt stop\)) 0x(\w{4})\b", text)}
     said = {status for check in range(1, 12) for status in re.findall(r"\b([0-9A-F]{4})H", there[f"6.{check}"])}
     if given != said:
         yield f"docs/RULES.md: checks 1 to 11 have {sorted(said - given)} more and {sorted(given - said)} less than the definitions"

@@ -7,7 +7,7 @@ WITHIN = {
     "copies of a new session": ("rules/specs/Records", r"newSession = record \{[^}]*copies = (\d+);"),
     "longest UID": ("uids/specs/Uids", r"isUid s = both \(leb \(length s\) (\d+)\)"),
     "longest label": ("rules/specs/Values", r"labelAllowed v = both \(leb \(length \(trimmed v\)\) (\d+)\)"),
-    "nested sequences": ("elements/specs/Reader", r"dataScope s syntax = scopeOf syntax (\d+)"),
+    "nested sequences": ("elements/specs/Reader", r"mostNested = (\d+)"),
     "header": ("strike/specs/Machine", r"ltb \(length bytes\) (\d+)"),
     "most context": ("rules/specs/Calls", r"ltb (\d+) n"),
     "most in a line": ("rules/specs/Sound", r"every \(between 1 (\d+)\)"),

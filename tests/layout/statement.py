@@ -31,7 +31,7 @@ STATUSES = [
     ("Basic Film Box, N-ACTION", [*TARGET, "planOf", "filmPrintRules", "TheFilm"], set()),
     ("Basic Film Box, N-DELETE", TARGET, set()),
     ("Basic Grayscale Image Box, N-SET", [*TARGET, "boxRules"], set()),
-    ("every request", ["decideCommand", "generalRules"], set()),
+    ("every request", ["decideCommand", "generalRules", "unlessStopped"], set()),
 ]
 # The definitions of each call's lines, and what feed returns beside them: answers by the names of their cases, a wrong header.
 CALLS = {
@@ -86,7 +86,7 @@ class Book:
         if name.startswith("The"):
             return [self.warning(name)]
         text = self.texts[name]
-        found = [f"{code}H" for code in re.findall(r"(?:⇒|saysUnknown message field\)) 0x(\w+)", text)]
+        found = [f"{code}H" for code in re.findall(r"(?:⇒|saysUnknown message field\)|\(StoppedAt stop\)) 0x(\w+)", text)]
         return self.codes("attributeRules") + found if "attributeRules (" in text else found
 
     def kind(self, code):

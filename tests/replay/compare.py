@@ -12,12 +12,9 @@ sys.path.insert(0, TRACES)
 
 from generate import NAMED, seeded
 from program import PLAIN
+from replies import KINDS, kinds
 
 KEPT = os.path.join(TRACES, "kept")
-STATUSES = ("0000 0106 0110 0111 0112 0117 0118 0119 0120 0121 0123 0211 0213 b602 b603 c600 c601 c602 "
-            "c604").split()
-REPLIES = ["done", "wait", "dropped", "ignored", "entry", "refused 1", "refused 2", "refused 3", "refused 4",
-           "refused 5", "refused 6", "none", "queued", "picture"]
 COMMAND = sys.argv[3:]
 
 
@@ -37,14 +34,6 @@ def difference(lines, wanted, got):
     if len(wanted) != len(got):
         return f"{len(wanted)} replies wanted, {len(got)} given: {got[-1][:300] if got else 'none'}"
     return None
-
-
-def names(reply):
-    """What a reply counts as."""
-    words = reply.split()
-    if words[0] == "response":
-        return [words[1], words[4]]
-    return [reply if words[0] == "refused" else words[0]]
 
 
 def kept(name):
@@ -67,11 +56,7 @@ def tried(make, argument):
     """The trace's name, what differs, how many calls were compared, and how often each kind of reply came."""
     name, lines, wanted = make(argument)
     got = replies(COMMAND, lines)
-    counts = {}
-    for reply in got:
-        for kind in names(reply):
-            counts[kind] = counts.get(kind, 0) + 1
-    return name, difference(lines, wanted, got), len(got), counts
+    return name, difference(lines, wanted, got), len(got), kinds(lines, got)
 
 
 def try_kept(name):
@@ -93,9 +78,9 @@ def main():
     with multiprocessing.Pool(os.cpu_count()) as pool:
         for results in (pool.imap(try_kept, stored, 4), pool.imap(try_named, list(NAMED), 1),
                         pool.imap(try_fresh, range(first, first + count), 8)):
-            for name, wrong, number, kinds in results:
+            for name, wrong, number, reached in results:
                 calls += number
-                for kind, times in kinds.items():
+                for kind, times in reached.items():
                     counts[kind] = counts.get(kind, 0) + times
                 if wrong is None:
                     passed += 1
@@ -103,7 +88,7 @@ def main():
                     failed += 1
                     print(f"FAILED {name}: {wrong}")
     print("Compared:")
-    for kind in REPLIES + STATUSES:
+    for kind in KINDS:
         print(f"  {counts.get(kind, 0):9}  {kind}")
         if counts.get(kind, 0) == 0:
             failed += 1

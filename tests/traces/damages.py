@@ -27,6 +27,11 @@ class Damaged(Console):
         self.count(f"{status:04X}H {what}".strip())
         self.ask(request, data, request.response(status, request.instance if named else None))
 
+    def stops(self, request, data, stop, what):
+        """Check 5: the data set cannot be read, and the note says where the reading stopped."""
+        self.count(f"0110H {what}")
+        self.ask(request, data, request.response(0x0110, request.instance, b"", stop.note()))
+
     def film(self):
         return self.rng.choice(self.films)
 
@@ -141,20 +146,42 @@ def faults_and_depths(syntax):
             yield fault, depth
 
 
+def every_fault(syntax):
+    yield from faults_and_depths(syntax)
+    yield from ((fault, 4) for fault in fifth_sequences(syntax))
+
+
 @damage
 def data_unreadable(c):
     for fault, depth in c.some(faults_and_depths(c.syntax)):
         request = c.rng.choice(c.sound_requests())
-        data = faulty(fault, depth, c.syntax, c.rng)
-        c.fails(0x0110, request, data, what=f"reader: {fault.name}, {c.syntax}")
-        c.count(f"reader fault in {depth} sequences")
+        c.stops(request, *faulty(fault, depth, c.syntax, c.rng), f"reader: {fault.name}, {c.syntax}")
 
 
 @damage
 def fifth_sequence(c):
     for fault in c.some(fifth_sequences(c.syntax)):
         request = c.rng.choice(c.sound_requests())
-        c.fails(0x0110, request, faulty(fault, 4, c.syntax, c.rng), what="reader: fifth sequence")
+        c.stops(request, *faulty(fault, 4, c.syntax, c.rng), "reader: fifth sequence")
+
+
+def some_faults(c):
+    """All of them to a thorough console, else of some numbers and depths one each, so that none is rare."""
+    if c.thorough:
+        return every_fault(c.syntax)
+    alike = {}
+    for fault, depth in every_fault(c.syntax):
+        alike.setdefault((fault.number, depth), []).append((fault, depth))
+    return [c.rng.choice(cases) for cases in c.some(alike.values())]
+
+
+@damage
+def unreadable_amid_sound(c):
+    """R-4: the same faults, behind sound elements and items, and with something behind them."""
+    amid = Amid(c.syntax, c.rng)
+    for fault, depth in some_faults(c):
+        request = c.rng.choice(c.sound_requests())
+        c.stops(request, *amid.made(fault, depth), f"reader, amid sound: {fault.name}, {c.syntax}")
 
 
 @damage
@@ -375,10 +402,15 @@ NUMBERS_WRONG = {
 
 
 def odd_length(c, place, picture, size):
-    """A box's data set whose Pixel Data has an odd length, which the reader refuses, be it that of the pixels too."""
-    inside = elements(without(picture, 0x7FE00010), c.syntax) + header(0x7FE00010, "OW", size, c.syntax) + bytes(size)
+    """A box's data set whose Pixel Data has an odd length, which the reader refuses, be it that of the pixels too, and
+    where its reading stops."""
+    before = elements(without(picture, 0x7FE00010), c.syntax)
+    wrong = header(0x7FE00010, "OW", size, c.syntax) + bytes(size)
     loose = c.rng.random() < 0.5
-    return elements([place], c.syntax) + sequence(0x20200110, item(inside, loose), c.syntax, loose)
+    part = in_item(Stopping(before + wrong, Stop(2, len(before), 1)), loose, True, 1)
+    part = in_sequence(part, c.syntax, loose, True, (0x20200110, 0x20200110), 0)
+    part = beside(part, elements([place], c.syntax), b"")
+    return part.data, part.stop
 
 
 @damage
@@ -424,8 +456,8 @@ def box_values(c):
     for size in c.some((28, 32)):
         image(0x0106, [c.picture_item(3, 5, True, bytes(size))], "value of 7FE00010")
     for item_rows, size in c.some(((odd, 15), (odd, 17), (picture, 5), (picture, 7))):
-        data = odd_length(c, place, item_rows, size)
-        c.fails(0x0110, c.request(N_SET, BOX, film.boxes[i]), data, what="odd length of 7FE00010")
+        data, stop = odd_length(c, place, item_rows, size)
+        c.stops(c.request(N_SET, BOX, film.boxes[i]), data, stop, "odd length of 7FE00010")
     for deep in c.some((False, True)):
         image(0x0106, [c.picture_item(0xFFFF, 0xFFFF, deep, bytes(2))], "value of 7FE00010")
     if c.length > 20000:        # 46341 * 46341 * 2 is 9266 in 32 bits
@@ -504,7 +536,7 @@ def command_refused_by_reader(c):
     # An unnamed sequence of defined length is opaque.
     cases = [(f, d) for f, d in faults_and_depths(IMPLICIT) if not f.between_items or f.undefined is not False]
     for fault, depth in c.some(cases):
-        rest = faulty(fault, depth, IMPLICIT, c.rng, tags, True)
+        rest, _ = faulty(fault, depth, IMPLICIT, c.rng, tags, True)
         c.count(f"dropped: reader: {fault.name}")
         c.send(with_rest(rows, rest), None, "dropped")
 

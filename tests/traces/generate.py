@@ -304,6 +304,14 @@ def tickets():
     return c
 
 
+def stop_at_the_buffers_end(c):
+    """The last bytes that the buffer holds are a cut header."""
+    cut = tag_bytes(0xFFFF0001) + b"UT"
+    size = c.length - len(header(0xFFFCFFFC, "OB", 0, c.syntax)) - len(cut)
+    before = header(0xFFFCFFFC, "OB", size, c.syntax) + bytes(size)
+    c.stops(c.request(N_SET, SESSION, c.session), before + cut, Stop(1, len(before), 0), "reader: at the buffer's end")
+
+
 def long_lines():
     """The largest message buffer: filled to the last byte by one fragment, and past it."""
     c = Damaged(random.Random(2))
@@ -314,6 +322,7 @@ def long_lines():
     film = c.create_film(1, 1)
     c.fill_box(film, 0, 1, c.picture_item(4096, 2047, True, bytes(4096 * 2047 * 2)))
     data_of_the_buffers_length(c)
+    stop_at_the_buffers_end(c)
     data_too_long_at_once(c)
     c.count("lines past 32 MiB")
     c.print_film(film)

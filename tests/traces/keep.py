@@ -10,6 +10,7 @@ import damages
 from examples import EXAMPLES
 from generate import *
 from program import ROOT, Run
+from stopped import BY_HAND
 
 CRATE = os.path.join(ROOT, "crates", "traces")
 KEPT = os.path.join(CRATE, "data")
@@ -17,13 +18,19 @@ KEPT = os.path.join(CRATE, "data")
 # The longest message buffer that crates/traces lends: it makes no open that lends more.
 LENT = 65537
 
+# The most that it reads of a file.
+READ = 65536
+
 
 # The syntax tells in these, so both are kept.
-IN_BOTH = (data_unreadable, fifth_sequence, four_sequences, odd_but_readable)
+IN_BOTH = (data_unreadable, fifth_sequence, four_sequences, odd_but_readable, unreadable_amid_sound)
+
+# A damage's place gives its trace's seed, so those that came later stand behind.
+LATER = [unreadable_amid_sound]
 
 # How many cases are kept, where it is not 10: the first two fill the buffer, the others have many.
 PICKS = {data_too_long: 3, cut_off: 3, data_unreadable: 70, command_refused_by_reader: 70,
-         command_unreadable: 30, refused_headers: 30, session_values: 20, film_values: 20}
+         command_unreadable: 30, refused_headers: 30, session_values: 20, film_values: 20, unreadable_amid_sound: 31}
 
 
 def damage_trace(function, i):
@@ -174,7 +181,7 @@ def odd_pictures():
                  ((3, 5, False, 14), (3, 5, False, 18), (1, 1, False, 4), (3, 5, True, 28), (3, 5, True, 32))]
         for data in wrong:
             c.fails(0x0106, c.request(N_SET, BOX, film.boxes[4]), data)
-        c.fails(0x0110, c.request(N_SET, BOX, film.boxes[4]), damages.odd_length(c, place, pictures[0], 15))
+        c.stops(c.request(N_SET, BOX, film.boxes[4]), *damages.odd_length(c, place, pictures[0], 15), "odd length")
         c.print_film(film)
         c.take()
         c.close()
@@ -279,8 +286,9 @@ def wild_trace(seed):
 
 
 def kept_traces():
-    yield from ((name, make()) for name, make in EXAMPLES)
-    for i, function in enumerate(damages.DAMAGES + [refused_headers]):
+    yield from ((name, make()) for name, make in EXAMPLES + BY_HAND)
+    first = [function for function in damages.DAMAGES if function not in LATER]
+    for i, function in enumerate(first + [refused_headers] + LATER):
         yield "damage-" + function.__name__.replace("_", "-"), damage_trace(function, i)
     yield "job-implicit", first_job(IMPLICIT)
     yield "job-explicit", first_job(EXPLICIT)
@@ -308,8 +316,11 @@ def said(name, calls):
 
 
 def write(path, rows):
+    text = "\n".join(rows) + "\n"
+    if len(text) > READ:
+        sys.exit(f"{path}: {len(text)} bytes, more than crates/traces reads")
     with open(path, "w", encoding="ascii") as out:
-        out.write("\n".join(rows) + "\n")
+        out.write(text)
 
 
 def main():

@@ -1,8 +1,10 @@
 """Demand 3 tried: messages that failed, were dropped or were cut off are struck from a run in which
-no fragment header was refused; all else is answered the same, and the records end the same."""
+no fragment header was refused; all else is answered the same, notes too, and the records end the same."""
 from program import Run
 
 SUCCESSES = ("0000", "b602", "b603")
+LEFT = "failed and left, with where its reading stopped"
+COUNTED = ("failed", "dropped", "cut off", LEFT)
 
 
 def messages(lines, replies):
@@ -32,22 +34,23 @@ def messages(lines, replies):
 
 
 def try_strikes(lines, run, rng, tries, binary):
-    """Tries some strikes; (strikes tried, messages struck by fate, first difference or None)."""
-    struck_by_fate = {}
+    """Tries some strikes; (strikes tried, how often each of COUNTED, first difference or None)."""
+    counts = {}
     may_go = [m for m in messages(lines, run.replies) if m["fate"] in ("failed", "dropped", "cut off")]
     if not may_go:
-        return 0, struck_by_fate, None
+        return 0, counts, None
     for attempt in range(tries):
         share = 1.0 if attempt == 0 else rng.random()
         gone = [m for m in may_go if rng.random() < share] or [rng.choice(may_go)]
         for m in gone:
-            struck_by_fate[m["fate"]] = struck_by_fate.get(m["fate"], 0) + 1
+            counts[m["fate"]] = counts.get(m["fate"], 0) + 1
         places = {p for m in gone for p in m["places"]}
         kept = [i for i in range(len(lines)) if i not in places]
+        counts[LEFT] = counts.get(LEFT, 0) + sum(" stopped " in run.replies[i] for i in kept)
         again = Run([lines[i] for i in kept], binary)
         difference = again.differs([lines[i] for i in kept], [run.replies[i] for i in kept])
         if difference is None and again.dump != run.dump:
             difference = "the records end differently"
         if difference is not None:
-            return attempt + 1, struck_by_fate, f"struck {sorted(places)}: {difference}"
-    return tries, struck_by_fate, None
+            return attempt + 1, counts, f"struck {sorted(places)}: {difference}"
+    return tries, counts, None

@@ -1,5 +1,6 @@
 // Answering: a fragment fed: collected, and a whole command decided, answered, and its effect written.
 use collecting::Answer;
+use elements::Read;
 use rules::Command;
 use rules::Core;
 use rules::Note;
@@ -40,11 +41,15 @@ fn decided(k: Core, c: &[u8], came: Came, d: &[u8], request: Request) -> Verdict
     ensures { λ r. ⌜ r ≡ decideRequest k (now (c .entry)) (record { came = came; bytes = now (d .entry) }) request ⌝ }
 {
     let operation = request.operation;
-    let broken = checks::general_broken(k, c, came, d, operation);
+    let broken = checks::general_broken(c, came, operation);
     if broken != 0 {
         return verdicts::failed(k, c, request, Note::NoNote, broken);
     }
-    planned(k, c, d, request.message, operation)
+    let opened = k.opened;
+    match checks::reading(headers::syntax_of(opened.syntax), came, d) {
+        Read::Past(_) => planned(k, c, d, request.message, operation),
+        Read::Refused(stop) => verdicts::failed(k, c, request, Note::StoppedAt(stop), 0x0110),
+    }
 }
 
 // A whole command.

@@ -1,4 +1,4 @@
--- Checks 2 to 5: a request names its class within its command, and each way out as the code tells it.
+-- Checks 2 to 4: a request names its class within its command, and each way out as the code tells it.
 -- Assumes nothing.
 use Prim.Native.Nat.{ℕ}
 use mathlib.Core.Path.{_≡_, ap, _∙_}
@@ -7,15 +7,12 @@ use mathlib.Core.Bool.{Bool, true, false}
 use mathlib.Core.List.{List}
 use borrow.Author.Tests.{not-true, not-false}
 use Rattle.choice.specs.Rules.{firstBroken}
-use Rattle.headers.specs.declared.Syntax.{Syntax}
 use Rattle.headers.specs.declared.Part.{Part}
-use Rattle.rules.specs.declared.Core.{Core}
 use Rattle.rules.specs.declared.Operation.{Operation}
 use Rattle.rules.specs.declared.Operation.the-variants.{Echo, Create, Set, Act, Delete}
-use Rattle.rules.specs.Records.{syntaxIn}
 use Rattle.rules.specs.Commands.{uidAt}
 use Rattle.rules.specs.declared.Class.{Class}
-use Rattle.rules.specs.Checks.{classOf, classPart, isUnknown, offers, isTooLong, isUnreadable, generalRules}
+use Rattle.rules.specs.Checks.{classOf, classPart, isUnknown, offers, isTooLong, generalRules}
 use Rattle.commands.specs.Within.{PartIn, OperationIn}
 use Rattle.strike.specs.declared.Came.{Came}
 
@@ -26,10 +23,10 @@ class-in n (Set r) h = h .0
 class-in n (Act r) h = h .0
 class-in n (Delete r) h = h .0
 
-module _ (k : Core) (c : List ℕ) (came : Came) (d : List ℕ) (o : Operation) (p : Part) (uid : List ℕ) (class : Class) (unknown : Bool)
+module _ (c : List ℕ) (came : Came) (o : Operation) (p : Part) (uid : List ℕ) (class : Class) (unknown : Bool)
     (told-part : p ≡ classPart o) (told-uid : uid ≡ uidAt c p) (told-class : class ≡ classOf uid) (told-unknown : unknown ≡ isUnknown class) where
   abbrev Answers : ℕ → Type 0
-  Answers n = n ≡ firstBroken (generalRules k c (record { came = came; bytes = d }) o)
+  Answers n = n ≡ firstBroken (generalRules c came o)
 
   asked : class ≡ classOf (uidAt c (classPart o))
   asked = told-class ∙ ap classOf (told-uid ∙ ap (uidAt c) told-part)
@@ -48,13 +45,8 @@ module _ (k : Core) (c : List ℕ) (came : Came) (d : List ℕ) (o : Operation) 
       unfolding generalRules
       too-long e = rw (← asked, ← told-unknown, known, ← told-offered, not-false offered is-offered, ← told-long, e)
 
-      module _ (short : long ≡ false) (syntax : Syntax) (told-syntax : syntax ≡ syntaxIn k) (wrong : Bool) (told-wrong : wrong ≡ isUnreadable syntax came d) where
-        pub unreadable : wrong ≡ true → Answers 0x0110
-        unfolding generalRules
-        unreadable e = rw (← asked, ← told-unknown, known, ← told-offered, not-false offered is-offered, ← told-long, short, ← told-syntax, ← told-wrong, e)
+      pub unbroken : long ≡ false → Answers 0
+      unfolding generalRules
+      unbroken e = rw (← asked, ← told-unknown, known, ← told-offered, not-false offered is-offered, ← told-long, e)
 
-        pub unbroken : wrong ≡ false → Answers 0
-        unfolding generalRules
-        unbroken e = rw (← asked, ← told-unknown, known, ← told-offered, not-false offered is-offered, ← told-long, short, ← told-syntax, ← told-wrong, e)
-
-pub ruleset asked-by = (class-unknown, not-offered, too-long, unreadable, unbroken)
+pub ruleset asked-by = (class-unknown, not-offered, too-long, unbroken)

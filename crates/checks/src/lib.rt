@@ -1,4 +1,5 @@
 // Checks: checks 2 to 6 of a request.
+use elements::Read;
 use headers::Part;
 use headers::Syntax;
 use rules::Class;
@@ -11,7 +12,7 @@ ghost use mathlib.Core.Bool.{true};
 ghost use lib.ListN.{length};
 ghost use Rattle.choice.specs.Rules.{firstBroken};
 ghost use Rattle.rules.specs.declared.Class.the-variants.{Sessions, Films, Boxes};
-ghost use Rattle.rules.specs.Checks.{isUnknown, isTooLong, isUnreadable, isNobody, ofClass, generalRules, createRules, targetRules};
+ghost use Rattle.rules.specs.Checks.{isUnknown, isTooLong, readingOf, isNobody, ofClass, generalRules, createRules, targetRules};
 ghost use Rattle.rules.specs.Sound.{coreSound};
 ghost use Rattle.commands.specs.Within.{PartIn, OperationIn};
 
@@ -132,20 +133,21 @@ fn is_too_long(came: Came) -> bool
     }
 }
 
-fn is_unreadable(syntax: Syntax, came: Came, d: &[u8]) -> bool
-    ensures { λ r. ⌜ r ≡ isUnreadable syntax came (now (d .entry)) ⌝ }
+// Check 5: what the reader says of the data set.
+pub fn reading(syntax: Syntax, came: Came, d: &[u8]) -> Read
+    ensures { λ r. ⌜ r ≡ readingOf syntax came (now (d .entry)) ⌝ }
 {
     match came {
-        Came::Absent => false,
-        Came::Whole => !commands::is_read(elements::data_set(d, syntax)),
-        Came::TooLong => false,
+        Came::Absent => Read::Past(0),
+        Came::Whole => elements::data_set(d, syntax),
+        Came::TooLong => Read::Past(0),
     }
 }
 
-// Checks 2 to 5: the number of the first rule that a request breaks, 0 where it breaks none.
-pub fn general_broken(k: Core, c: &[u8], came: Came, d: &[u8], operation: Operation) -> u16
+// Checks 2 to 4: the number of the first rule that a request breaks, 0 where it breaks none.
+pub fn general_broken(c: &[u8], came: Came, operation: Operation) -> u16
     requires { ⌜ OperationIn (length (now c)) operation ⌝ }
-    ensures { λ r. ⌜ r ≡ firstBroken (generalRules k (now (c .entry)) (record { came = came; bytes = now (d .entry) }) operation) ⌝ }
+    ensures { λ r. ⌜ r ≡ firstBroken (generalRules (now (c .entry)) came operation) ⌝ }
 {
     let class = instances::class_of(instances::uid_at(c, instances::class_part(operation)));
     if is_unknown(class) {
@@ -156,10 +158,6 @@ pub fn general_broken(k: Core, c: &[u8], came: Came, d: &[u8], operation: Operat
     }
     if is_too_long(came) {
         return 0x0213;
-    }
-    let opened = k.opened;
-    if is_unreadable(headers::syntax_of(opened.syntax), came, d) {
-        return 0x0110;
     }
     0
 }

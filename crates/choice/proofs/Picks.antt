@@ -1,7 +1,7 @@
 -- What a test that picked a case tells.
 -- Assumes nothing.
 use mathlib.Core.Path.{_≡_, refl, sym, _∙_, subst}
-use mathlib.Core.List.{List, [], _∷_}
+use mathlib.Core.List.{List, [], _∷_, _++_}
 use lib.Dec.{T}
 use mathlib.Core.Bool as bool
 use mathlib.Core.Bool.{Bool, true, false}
@@ -23,6 +23,20 @@ pub first-cases : {A : Type 0} (P : A → Type 0) (refused : ℕ → A) (rules :
 first-cases P refused [] x f g = g tt
 first-cases P refused ((true ⇒ n) ∷ rules) x f g = f n
 first-cases P refused ((false ⇒ n) ∷ rules) x f g = first-cases P refused rules x f (λ k. g (refl, k))
+
+-- what holds of the number of each rule
+abbrev pub Numbers : (ℕ → Type 0) → List Rule → Type 0
+Numbers Q [] = Unit {0}
+Numbers Q ((broken ⇒ n) ∷ rules) = Q n × Numbers Q rules
+
+pub number-cases : {A : Type 0} (P : A → Type 0) (Q : ℕ → Type 0) (refused : ℕ → A) (rules : List Rule) (x : A) → Numbers Q rules → ((n : ℕ) → Q n → P (refused n)) → (Kept rules → P x) → P (firstOr refused rules x)
+number-cases P Q refused [] x h f g = g tt
+number-cases P Q refused ((true ⇒ n) ∷ rules) x h f g = f n (h .0)
+number-cases P Q refused ((false ⇒ n) ∷ rules) x h f g = number-cases P Q refused rules x (h .1) f (λ k. g (refl, k))
+
+pub numbers-both : (Q : ℕ → Type 0) (a b : List Rule) → Numbers Q a → Numbers Q b → Numbers Q (a ++ b)
+numbers-both Q [] b f g = g
+numbers-both Q ((broken ⇒ n) ∷ a) b f g = (f .0, numbers-both Q a b (f .1) g)
 
 -- where no rule is broken, what follows is given
 pub first-kept : {A : Type 0} (refused : ℕ → A) (rules : List Rule) (x : A) → Kept rules → firstOr refused rules x ≡ x

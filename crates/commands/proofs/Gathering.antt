@@ -17,6 +17,7 @@ use Rattle.headers.specs.declared.Close.the-variants.{Here, Not}
 use Rattle.headers.specs.declared.Close.{Close}
 use Rattle.headers.specs.declared.Head.{Head}
 use Rattle.headers.specs.Header.{tagAt, headAt, closeAt}
+use Rattle.elements.specs.declared.Stop.{Stop}
 use Rattle.elements.specs.declared.Read.{Read}
 use Rattle.elements.specs.declared.Read.the-variants.{Past, Refused}
 use Rattle.elements.specs.declared.Found.{Found}
@@ -47,7 +48,7 @@ module _ (c : List ℕ) (at floor : ℕ) (h : at ≤ length c) where
   unfolding wholeFrom every
   whole-done k = rw (list-done c Implicit 4 (whole c) at h floor k, elements-done c (dataScope c Implicit) at h floor k)
 
-  whole-refused : {n : ℕ} → closeAt c itemEnd (whole c) at ≡ Not → elementAt c Implicit 4 (length c) at floor ≡ Refused n → wholeFrom c at floor ≡ false
+  whole-refused : {stop : Stop} → closeAt c itemEnd (whole c) at ≡ Not → elementAt c Implicit 4 (length c) at floor ≡ Refused stop → wholeFrom c at floor ≡ false
   unfolding wholeFrom
   whole-refused k e = rw (list-refused c Implicit 4 (whole c) at h floor k e)
 
@@ -171,7 +172,7 @@ module _ (c : List ℕ) (at floor : ℕ) (parts : List Part) (inv : (at ≤ leng
     stops : wholeFrom c at floor ≡ false → Gathers c (record { whole = false; parts = parts })
     stops e = record { told = sym (inv .1 ∙ e); held = λ t. absurd (clash refl t) }
 
-    pub walk-refused : {n : ℕ} → y ≡ Refused n → Gathers c (record { whole = false; parts = parts })
+    pub walk-refused : {stop : Stop} → y ≡ Refused stop → Gathers c (record { whole = false; parts = parts })
     walk-refused e = stops (whole-refused c at floor (inv .0) (sym closes ∙ on) (sym reads ∙ e))
 
     module _ {q : ℕ} (past : y ≡ Past q) where

@@ -1,5 +1,6 @@
 // Commands: what a whole command set says, held to the book.
 use elements::Found;
+use elements::NESTED;
 use elements::Read;
 use headers::Close;
 use headers::Head;
@@ -24,7 +25,7 @@ ghost use Rattle.headers.specs.declared.Syntax.the-variants.{Implicit};
 ghost use Rattle.headers.specs.Header.{headAt};
 ghost use Rattle.elements.specs.Reader.{elementAt};
 ghost use Rattle.elements.specs.Find.{found};
-ghost use Rattle.rules.specs.Commands.{inCommand, placed, size, uidAt, hasTarget, isRead, lengthTold, hasData, requestIn, understood};
+ghost use Rattle.rules.specs.Commands.{inCommand, placed, size, uidAt, hasTarget, lengthTold, hasData, requestIn, understood};
 ghost use Rattle.commands.specs.Places.{slotOf, Holds, Gathers};
 ghost use Rattle.commands.specs.Requests.{hasNumbers, knownAs, targetIn, echoIn, creationIn, settingIn, actionIn, deletionIn};
 
@@ -111,9 +112,9 @@ fn behind(c: &[u8], at: usize, floor: usize, head: Head) -> Read
     ensures { λ r. ⌜ r ≡ elementAt (now (c .entry)) Implicit 4 (length (now (c .entry))) at floor ⌝ }
 {
     match head {
-        Head::Fault(n) => Read::Refused(n),
+        Head::Fault(n) => elements::refused(n, at, NESTED),
         Head::Value(part) => Read::Past(part.stop),
-        Head::Nest(_) => elements::element(c, Syntax::Implicit, 4, c.len(), at, floor),
+        Head::Nest(_) => elements::element(c, Syntax::Implicit, NESTED, c.len(), at, floor),
     }
 }
 
@@ -232,15 +233,6 @@ fn length_told(c: &[u8], places: [Part; 10]) -> bool
         return false;
     }
     octets::u32_at(c, p.from) == c.len() - 12
-}
-
-pub fn is_read(read: Read) -> bool
-    ensures { λ r. ⌜ r ≡ isRead read ⌝ }
-{
-    match read {
-        Read::Past(_) => true,
-        Read::Refused(_) => false,
-    }
 }
 
 // Whether the field, the message number and the data set type are there, and the field is a request's.

@@ -19,13 +19,14 @@ use Rattle.headers.specs.declared.Close.{Close}
 use Rattle.headers.specs.declared.Close.the-variants.{Here, Not}
 use Rattle.headers.specs.Header.{tagAt, elementRules, headAt, itemHeadAt, closeAt}
 use Rattle.headers.proofs.Within.{Fits, HeadIn, head-in, item-head-in}
+use Rattle.elements.specs.declared.Stop.{Stop}
 use Rattle.elements.specs.declared.Read.{Read}
 use Rattle.elements.specs.declared.Read.the-variants.{Past, Refused}
 use Rattle.elements.specs.declared.Found.{Found}
 use Rattle.elements.specs.declared.Found.the-variants.{Missing}
 use Rattle.elements.specs.declared.Items.the-variants.{Empty, Several}
 use Rattle.elements.specs.Walk.{Next, again, done, follow, onward, onTrail, trail}
-use Rattle.elements.specs.Reader.{itemEnd, sequenceEnd, behind, orElse, Mark, start, listStep, listFrom, itemWith, itemStep, itemsFrom, elementAt, scopeOf, elementIn, listAt, itemAt, dataScope}
+use Rattle.elements.specs.Reader.{itemEnd, sequenceEnd, refusedAt, behind, orElse, Mark, start, listStep, listFrom, itemWith, itemStep, itemsFrom, elementAt, scopeOf, elementIn, listAt, itemAt, dataScope}
 use Rattle.elements.specs.Find.{elementsFrom, itemsOf, found, among, findAt, only, counted, itemsAt}
 use Rattle.elements.proofs.Within.{ReadIn, AllIn, FoundIn, ItemsIn}
 use Rattle.elements.proofs.Grammar.{place, ElemIn, element-in, item-in, list-unroll, items-unroll, elements-unroll, items-of-unroll, elements-in, items-of-in}
@@ -49,11 +50,11 @@ module _ (s : List ℕ) (end at : ℕ) (h : at ≤ end) where
 
   pub item-past : (syntax : Syntax) (room : ℕ) {q : ℕ} → itemAt s syntax room end at ≡ Past q → (at + 8 ≤ q) × (q ≤ end)
   unfolding itemAt
-  item-past syntax room e = subst (ReadIn (at + 8) end) e (item-in (elementAt s syntax room) (element-in s syntax room) s end at h)
+  item-past syntax room e = subst (ReadIn (at + 8) end) e (item-in (elementAt s syntax room) (element-in s syntax room) s room end at h)
 
 -- One element.
 
-pub element-fault : (s : List ℕ) (syntax : Syntax) (room end at floor : ℕ) {n : ℕ} → headAt s syntax end at floor ≡ Fault n → elementAt s syntax room end at floor ≡ Refused n
+pub element-fault : (s : List ℕ) (syntax : Syntax) (room end at floor : ℕ) {n : ℕ} → headAt s syntax end at floor ≡ Fault n → elementAt s syntax room end at floor ≡ refusedAt n at room
 unfolding elementAt
 element-fault s syntax zero end at floor e = rw e
 element-fault s syntax (suc room) end at floor e = rw e
@@ -63,12 +64,12 @@ unfolding elementAt
 element-value s syntax zero end at floor e = rw e
 element-value s syntax (suc room) end at floor e = rw e
 
-pub element-full : (s : List ℕ) (syntax : Syntax) (room end at floor : ℕ) {inside : Inside} → room ≡ 0 → headAt s syntax end at floor ≡ Nest inside → elementAt s syntax room end at floor ≡ Refused 7
+pub element-full : (s : List ℕ) (syntax : Syntax) (room end at floor : ℕ) {inside : Inside} → room ≡ 0 → headAt s syntax end at floor ≡ Nest inside → elementAt s syntax room end at floor ≡ refusedAt 7 at room
 unfolding elementAt
 element-full s syntax zero end at floor z e = rw e
 element-full s syntax (suc room) end at floor z e = absurd (omega arith)
 
-pub element-nest : (s : List ℕ) (syntax : Syntax) (room end at floor : ℕ) {inside : Inside} → (room ≡ 0 → ⊥) → headAt s syntax end at floor ≡ Nest inside → elementAt s syntax room end at floor ≡ itemsFrom (elementAt s syntax (room - 1)) s inside (inside .from)
+pub element-nest : (s : List ℕ) (syntax : Syntax) (room end at floor : ℕ) {inside : Inside} → (room ≡ 0 → ⊥) → headAt s syntax end at floor ≡ Nest inside → elementAt s syntax room end at floor ≡ itemsFrom (elementAt s syntax (room - 1)) s (room - 1) inside (inside .from)
 unfolding elementAt
 element-nest s syntax zero end at floor z e = absurd (z refl)
 element-nest s syntax (suc room) end at floor z e = rw (e, sub-one (suc room))
@@ -77,22 +78,22 @@ element-nest s syntax (suc room) end at floor z e = rw (e, sub-one (suc room))
 abbrev AboveFloor : ℕ → ℕ → Read → Type 0
 AboveFloor floor tag r = (q : ℕ) → r ≡ Past q → floor ≤ tag
 
-behind-above : (s : List ℕ) (syntax : Syntax) (end at floor : ℕ) (held : Inside → Read) → AboveFloor floor (tagAt s at) (behind held (headAt s syntax end at floor))
+behind-above : (s : List ℕ) (syntax : Syntax) (room end at floor : ℕ) (held : Inside → Read) → AboveFloor floor (tagAt s at) (behind held room at (headAt s syntax end at floor))
 unfolding headAt
-behind-above s syntax end at floor held =
-    first-cases (λ d. AboveFloor floor (tagAt s at) (behind held d)) Fault (elementRules s syntax end at floor) _
+behind-above s syntax room end at floor held =
+    first-cases (λ d. AboveFloor floor (tagAt s at) (behind held room at d)) Fault (elementRules s syntax end at floor) _
     (λ n q e. let z : _≡_ {A = ℕ} 0 1 = cc in absurd (omega arith))
     (λ k q e. ltb-false (tagAt s at) floor (k .1 .1 .0))
 
 pub element-above : (s : List ℕ) (syntax : Syntax) (room end at floor : ℕ) → AboveFloor floor (tagAt s at) (elementAt s syntax room end at floor)
 unfolding elementAt
-element-above s syntax zero end at floor = behind-above s syntax end at floor _
-element-above s syntax (suc room) end at floor = behind-above s syntax end at floor _
+element-above s syntax zero end at floor = behind-above s syntax zero end at floor _
+element-above s syntax (suc room) end at floor = behind-above s syntax (suc room) end at floor _
 
 -- One item.
 
 module _ (s : List ℕ) (syntax : Syntax) (room end at : ℕ) where
-  pub item-fault : {n : ℕ} → itemHeadAt s end at ≡ Fault n → itemAt s syntax room end at ≡ Refused n
+  pub item-fault : {n : ℕ} → itemHeadAt s end at ≡ Fault n → itemAt s syntax room end at ≡ refusedAt n at room
   unfolding itemAt itemWith
   item-fault e = rw e
 
@@ -110,7 +111,7 @@ module _ (s : List ℕ) (scope : Scope) (tag : ℕ) where
   on-trail-below : (m : Mark) (rest : Mark → List Mark) (k : Close) (r : Read) → tag < m .floor → ((y : Mark) → tag < y .floor → among s (scope .syntax) (scope .inside .stop) tag (rest y) ≡ Missing) → AboveFloor (m .floor) (tagAt s (m .at)) r → among s (scope .syntax) (scope .inside .stop) tag (onTrail m rest (orElse k (onward r (λ q. mark q (tagAt s (m .at) + 1))))) ≡ Missing
   on-trail-below m rest (Here q) r h f g = refl
   on-trail-below m rest Not (Past q) h f g = let t = g q refl in rw (ne-eqb (tagAt s (m .at)) tag (λ e. omega arith)) (f (mark q (tagAt s (m .at) + 1)) (omega arith))
-  on-trail-below m rest Not (Refused n) h f g = refl
+  on-trail-below m rest Not (Refused stop) h f g = refl
 
   trail-below : (fuel : ℕ) (m : Mark) → tag < m .floor → among s (scope .syntax) (scope .inside .stop) tag (trail (listStep (elementIn s scope) s (scope .inside)) fuel m) ≡ Missing
   unfolding trail listStep
@@ -126,28 +127,28 @@ module _ (s : List ℕ) (scope : Scope) (tag : ℕ) where
 -- One step of each walk.
 
 module _ (s : List ℕ) (syntax : Syntax) (room : ℕ) (inside : Inside) (at : ℕ) (h : at ≤ inside .stop) where
-  items-on : itemsFrom (elementAt s syntax room) s inside at ≡ follow (λ y. itemsFrom (elementAt s syntax room) s inside y) (orElse (closeAt s sequenceEnd inside at) (onward (itemAt s syntax room (inside .stop) at) (λ q. q)))
+  items-on : itemsFrom (elementAt s syntax room) s room inside at ≡ follow (λ y. itemsFrom (elementAt s syntax room) s room inside y) (orElse (closeAt s sequenceEnd inside at) (onward (itemAt s syntax room (inside .stop) at) (λ q. q)))
   unfolding itemStep itemAt
-  items-on = items-unroll (elementAt s syntax room) (element-in s syntax room) s inside at h
+  items-on = items-unroll (elementAt s syntax room) (element-in s syntax room) s room inside at h
 
-  pub items-done : {q : ℕ} → closeAt s sequenceEnd inside at ≡ Here q → itemsFrom (elementAt s syntax room) s inside at ≡ Past q
+  pub items-done : {q : ℕ} → closeAt s sequenceEnd inside at ≡ Here q → itemsFrom (elementAt s syntax room) s room inside at ≡ Past q
   items-done k = items-on ∙ rw k
 
-  pub items-refused : {n : ℕ} → closeAt s sequenceEnd inside at ≡ Not → itemAt s syntax room (inside .stop) at ≡ Refused n → itemsFrom (elementAt s syntax room) s inside at ≡ Refused n
+  pub items-refused : {stop : Stop} → closeAt s sequenceEnd inside at ≡ Not → itemAt s syntax room (inside .stop) at ≡ Refused stop → itemsFrom (elementAt s syntax room) s room inside at ≡ Refused stop
   items-refused k e = items-on ∙ rw (k, e)
 
-  pub items-more : {q : ℕ} → closeAt s sequenceEnd inside at ≡ Not → itemAt s syntax room (inside .stop) at ≡ Past q → itemsFrom (elementAt s syntax room) s inside at ≡ itemsFrom (elementAt s syntax room) s inside q
+  pub items-more : {q : ℕ} → closeAt s sequenceEnd inside at ≡ Not → itemAt s syntax room (inside .stop) at ≡ Past q → itemsFrom (elementAt s syntax room) s room inside at ≡ itemsFrom (elementAt s syntax room) s room inside q
   items-more k e = items-on ∙ rw (k, e)
 
   module _ (floor : ℕ) where
     list-on : listFrom (elementAt s syntax room) s inside (mark at floor) ≡ follow (λ y. listFrom (elementAt s syntax room) s inside y) (orElse (closeAt s itemEnd inside at) (onward (elementAt s syntax room (inside .stop) at floor) (λ q. mark q (tagAt s at + 1))))
     unfolding listStep
-    list-on = list-unroll (elementAt s syntax room) (element-in s syntax room) s inside (mark at floor) h
+    list-on = list-unroll (elementAt s syntax room) (element-in s syntax room) s room inside (mark at floor) h
 
     pub list-done : {q : ℕ} → closeAt s itemEnd inside at ≡ Here q → listFrom (elementAt s syntax room) s inside (mark at floor) ≡ Past q
     list-done k = list-on ∙ rw k
 
-    pub list-refused : {n : ℕ} → closeAt s itemEnd inside at ≡ Not → elementAt s syntax room (inside .stop) at floor ≡ Refused n → listFrom (elementAt s syntax room) s inside (mark at floor) ≡ Refused n
+    pub list-refused : {stop : Stop} → closeAt s itemEnd inside at ≡ Not → elementAt s syntax room (inside .stop) at floor ≡ Refused stop → listFrom (elementAt s syntax room) s inside (mark at floor) ≡ Refused stop
     list-refused k e = list-on ∙ rw (k, e)
 
     pub list-more : {q : ℕ} → closeAt s itemEnd inside at ≡ Not → elementAt s syntax room (inside .stop) at floor ≡ Past q → listFrom (elementAt s syntax room) s inside (mark at floor) ≡ listFrom (elementAt s syntax room) s inside (mark q (tagAt s at + 1))
@@ -158,12 +159,12 @@ module _ (s : List ℕ) (syntax : Syntax) (room : ℕ) (inside : Inside) (at : �
 module _ (s : List ℕ) (scope : Scope) (at : ℕ) (h : at ≤ scope .inside .stop) where
   items-of-on : itemsOf s scope at ≡ onTrail at (λ y. itemsOf s scope y) (orElse (closeAt s sequenceEnd (scope .inside) at) (onward (itemAt s (scope .syntax) (scope .room) (scope .inside .stop) at) (λ q. q)))
   unfolding itemStep itemAt itemsOf
-  items-of-on = items-of-unroll (elementIn s scope) (element-in s (scope .syntax) (scope .room)) s (scope .inside) at h
+  items-of-on = items-of-unroll (elementIn s scope) (element-in s (scope .syntax) (scope .room)) s (scope .room) (scope .inside) at h
 
   pub items-of-done : {q : ℕ} → closeAt s sequenceEnd (scope .inside) at ≡ Here q → itemsOf s scope at ≡ []
   items-of-done k = items-of-on ∙ rw k
 
-  pub items-of-refused : {n : ℕ} → closeAt s sequenceEnd (scope .inside) at ≡ Not → itemAt s (scope .syntax) (scope .room) (scope .inside .stop) at ≡ Refused n → itemsOf s scope at ≡ []
+  pub items-of-refused : {stop : Stop} → closeAt s sequenceEnd (scope .inside) at ≡ Not → itemAt s (scope .syntax) (scope .room) (scope .inside .stop) at ≡ Refused stop → itemsOf s scope at ≡ []
   items-of-refused k e = items-of-on ∙ rw (k, e)
 
   pub items-of-more : {q : ℕ} → closeAt s sequenceEnd (scope .inside) at ≡ Not → itemAt s (scope .syntax) (scope .room) (scope .inside .stop) at ≡ Past q → itemsOf s scope at ≡ at ∷ itemsOf s scope q
@@ -172,7 +173,7 @@ module _ (s : List ℕ) (scope : Scope) (at : ℕ) (h : at ≤ scope .inside .st
   module _ (floor : ℕ) where
     elements-on : elementsFrom s scope (mark at floor) ≡ onTrail (mark at floor) (λ y. elementsFrom s scope y) (orElse (closeAt s itemEnd (scope .inside) at) (onward (elementIn s scope (scope .inside .stop) at floor) (λ q. mark q (tagAt s at + 1))))
     unfolding listStep elementsFrom
-    elements-on = elements-unroll (elementIn s scope) (element-in s (scope .syntax) (scope .room)) s (scope .inside) (mark at floor) h
+    elements-on = elements-unroll (elementIn s scope) (element-in s (scope .syntax) (scope .room)) s (scope .room) (scope .inside) (mark at floor) h
 
     pub elements-done : {q : ℕ} → closeAt s itemEnd (scope .inside) at ≡ Here q → elementsFrom s scope (mark at floor) ≡ []
     elements-done k = elements-on ∙ rw k
@@ -184,7 +185,7 @@ module _ (s : List ℕ) (scope : Scope) (at : ℕ) (h : at ≤ scope .inside .st
       pub find-done : {q : ℕ} → closeAt s itemEnd (scope .inside) at ≡ Here q → among s (scope .syntax) (scope .inside .stop) tag (elementsFrom s scope (mark at floor)) ≡ Missing
       find-done k = rw (elements-on, k)
 
-      pub find-refused : {n : ℕ} → closeAt s itemEnd (scope .inside) at ≡ Not → elementIn s scope (scope .inside .stop) at floor ≡ Refused n → among s (scope .syntax) (scope .inside .stop) tag (elementsFrom s scope (mark at floor)) ≡ Missing
+      pub find-refused : {stop : Stop} → closeAt s itemEnd (scope .inside) at ≡ Not → elementIn s scope (scope .inside .stop) at floor ≡ Refused stop → among s (scope .syntax) (scope .inside .stop) tag (elementsFrom s scope (mark at floor)) ≡ Missing
       find-refused k e = rw (elements-on, k, e)
 
       pub find-here : {q : ℕ} → closeAt s itemEnd (scope .inside) at ≡ Not → elementIn s scope (scope .inside .stop) at floor ≡ Past q → tagAt s at ≡ tag → among s (scope .syntax) (scope .inside .stop) tag (elementsFrom s scope (mark at floor)) ≡ found (headAt s (scope .syntax) (scope .inside .stop) at floor)
@@ -199,7 +200,7 @@ module _ (s : List ℕ) (scope : Scope) (at : ℕ) (h : at ≤ scope .inside .st
         where
           unread : (r : Read) → elementIn s scope (scope .inside .stop) at floor ≡ r → among s (scope .syntax) (scope .inside .stop) tag (elementsFrom s scope (mark at floor)) ≡ Missing
           unread (Past q) e = f q e
-          unread (Refused n) e = find-refused k e
+          unread (Refused stop) e = find-refused k e
 
       pub find-short : closeAt s itemEnd (scope .inside) at ≡ Not → scope .inside .stop - at < 8 → among s (scope .syntax) (scope .inside .stop) tag (elementsFrom s scope (mark at floor)) ≡ Missing
       find-short k l = find-unread k (λ q e. let b = element-past s (scope .syntax) (scope .inside .stop) at floor h (scope .room) e in absurd (omega arith))
@@ -253,7 +254,7 @@ found-in low end (Value part) g = g
 found-in low end (Nest inside) g = g
 
 lower-head : (low low′ end : ℕ) (d : Head) → low ≤ low′ → HeadIn low′ end d → HeadIn low end d
-lower-head low low′ end (Fault n) h g = tt
+lower-head low low′ end (Fault n) h g = g
 lower-head low low′ end (Value part) h g = (omega arith, g .1)
 lower-head low low′ end (Nest inside) h g = (omega arith, g .1)
 
@@ -267,7 +268,7 @@ among-in s syntax low end tag (m ∷ ms) h =
 pub find-within : (s : List ℕ) (scope : Scope) (tag : ℕ) → scope .inside .from ≤ scope .inside .stop → FoundIn (scope .inside .from + 8) (scope .inside .stop) (findAt s scope tag)
 unfolding findAt elementsFrom
 find-within s scope tag h =
-    among-in s (scope .syntax) (scope .inside .from) (scope .inside .stop) tag (elementsFrom s scope (start (scope .inside))) (elements-in (elementIn s scope) (element-in s (scope .syntax) (scope .room)) s (scope .inside) (start (scope .inside)) h)
+    among-in s (scope .syntax) (scope .inside .from) (scope .inside .stop) tag (elementsFrom s scope (start (scope .inside))) (elements-in (elementIn s scope) (element-in s (scope .syntax) (scope .room)) s (scope .room) (scope .inside) (start (scope .inside)) h)
 
 -- what was found in all of a data set
 pub found-whole : (s : List ℕ) (syntax : Syntax) (tag : ℕ) (scope : Scope) (f g : Found) → scope ≡ dataScope s syntax → f ≡ findAt s scope tag → f ≡ g → findAt s (dataScope s syntax) tag ≡ g
@@ -286,4 +287,4 @@ counted-in s low end (at ∷ (next ∷ more)) h = tt
 pub items-within : (s : List ℕ) (scope : Scope) → scope .inside .from ≤ scope .inside .stop → ItemsIn (scope .inside .from + 8) (scope .inside .stop) (itemsAt s scope)
 unfolding itemsAt itemsOf
 items-within s scope h =
-    counted-in s (scope .inside .from) (scope .inside .stop) (itemsOf s scope (scope .inside .from)) (items-of-in (elementIn s scope) (element-in s (scope .syntax) (scope .room)) s (scope .inside) (scope .inside .from) h)
+    counted-in s (scope .inside .from) (scope .inside .stop) (itemsOf s scope (scope .inside .from)) (items-of-in (elementIn s scope) (element-in s (scope .syntax) (scope .room)) s (scope .room) (scope .inside) (scope .inside .from) h)

@@ -3,3 +3,6 @@ pub mod Within
 pub mod Steps
 pub mod Grammar
 pub mod Laws
+pub mod Stops
+pub mod Beyond
+pub mod Before

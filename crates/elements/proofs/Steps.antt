@@ -11,7 +11,7 @@ use Rattle.elements.proofs.Within.{ReadIn, NextIn, AllIn}
 
 pub lower : (low low′ end : ℕ) (r : Read) → low ≤ low′ → ReadIn low′ end r → ReadIn low end r
 lower low low′ end (Past q) h g = (omega arith, g .1)
-lower low low′ end (Refused n) h g = tt
+lower low low′ end (Refused stop) h g = g
 
 follow-in : {S : Type 0} (place : S → ℕ) (low end : ℕ) (rest : S → Read) (n : Next S) → ((y : S) → place y ≤ end → ReadIn (place y) end (rest y)) → NextIn place low end n → ReadIn low end (follow rest n)
 follow-in place low end rest (again y) f g = lower low (place y) end (rest y) (omega arith) (f y (g .1))
@@ -36,7 +36,7 @@ onTrail-in place end x rest (done r) h f g = tt
 module _ {S : Type 0} (place : S → ℕ) (end : ℕ) (step : S → Next S) (good : (x : S) → place x ≤ end → NextIn place (place x) end (step x)) where
   pub walk-in : (k : ℕ) (x : S) → place x ≤ end → ReadIn (place x) end (walk step k x)
   unfolding walk
-  walk-in zero x h = tt
+  walk-in zero x h = omega arith
   walk-in (suc k) x h = follow-in place (place x) end (λ y. walk step k y) (step x) (λ y g. walk-in k y g) (good x h)
 
   -- enough fuel is any fuel above what is left

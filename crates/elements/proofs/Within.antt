@@ -2,7 +2,7 @@
 -- Assumes nothing.
 use Prim.Native.Nat.{ℕ, _≤_, _<_}
 use mathlib.Core.List.{List, [], _∷_}
-use Rattle.headers.proofs.Within.{Fits}
+use Rattle.headers.proofs.Within.{mostRefusal, Fits}
 use Rattle.elements.specs.declared.Read.{Read}
 use Rattle.elements.specs.declared.Read.the-variants.{Past, Refused}
 use Rattle.elements.specs.declared.Found.{Found}
@@ -10,11 +10,12 @@ use Rattle.elements.specs.declared.Found.the-variants.{Missing, Value, S
 use Rattle.elements.specs.declared.Items.{Items}
 use Rattle.elements.specs.declared.Items.the-variants.{Empty, One, Several}
 use Rattle.elements.specs.Walk.{Next, again, done}
+use Rattle.elements.specs.Reader.{mostNested}
 
--- the place after what was read is at least `low` and at most `end`
+-- the place after what was read is at least `low` and at most `end`; a reading stops no later, in no more sequences than are read
 abbrev pub ReadIn : ℕ → ℕ → Read → Type 0
 ReadIn low end (Past q) = (low ≤ q) × (q ≤ end)
-ReadIn low end (Refused n) = Unit {0}
+ReadIn low end (Refused stop) = (stop .number ≤ mostRefusal) × (stop .place ≤ end) × (stop .depth ≤ mostNested)
 
 -- a step goes on from a further place, or ends
 abbrev pub NextIn : {S : Type 0} → (S → ℕ) → ℕ → ℕ → Next S → Type 0

@@ -22,7 +22,7 @@ elementsFrom s scope m = trail (listStep (elementIn s scope) s (scope .inside)) 
 
 -- the items of a sequence, as far as it can be read: where each stands
 unfoldable pub itemsOf : List ℕ → Scope → ℕ → List ℕ
-itemsOf s scope at = trail (itemStep (elementIn s scope) s (scope .inside)) (suc (scope .inside .stop - at)) at
+itemsOf s scope at = trail (itemStep (elementIn s scope) s (scope .room) (scope .inside)) (suc (scope .inside .stop - at)) at
 
 -- what a header gives to the one who looks for it
 abbrev pub found : Head → Found

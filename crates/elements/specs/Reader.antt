@@ -26,11 +26,19 @@ sequenceEnd = 0xFFFE_E0DD
 abbrev pub Elem : Type 0
 Elem = ℕ → ℕ → ℕ → Read
 
--- what is read behind a header
-abbrev pub behind : (Inside → Read) → Head → Read
-behind held (Fault n) = Refused n
-behind held (Value part) = Past (part .stop)
-behind held (Nest inside) = held inside
+-- so many sequences within one another are read
+abbrev pub mostNested : ℕ
+mostNested = 4
+
+-- a header at fault: its place, and how many sequences it lies in, where there is room for so many more
+abbrev pub refusedAt : ℕ → ℕ → ℕ → Read
+refusedAt n at room = Refused (record { number = n; place = at; depth = mostNested - room })
+
+-- what is read behind a header that stands at a place
+abbrev pub behind : (Inside → Read) → ℕ → ℕ → Head → Read
+behind held room at (Fault n) = refusedAt n at room
+behind held room at (Value part) = Past (part .stop)
+behind held room at (Nest inside) = held inside
 
 -- at the end of a list, or with one more part
 abbrev pub orElse : {S : Type 0} → Close → Next S → Next S
@@ -55,24 +63,24 @@ unfoldable pub listFrom : Elem → List ℕ → Inside → Mark → Read
 listFrom element s inside m = walk (listStep element s inside) (suc (inside .stop - m .at)) m
 
 -- an item: its header, and its list
-unfoldable pub itemWith : Elem → List ℕ → ℕ → ℕ → Read
-itemWith element s end at = behind (λ inside. listFrom element s inside (start inside)) (itemHeadAt s end at)
+unfoldable pub itemWith : Elem → List ℕ → ℕ → ℕ → ℕ → Read
+itemWith element s room end at = behind (λ inside. listFrom element s inside (start inside)) room at (itemHeadAt s end at)
 
-unfoldable pub itemStep : Elem → List ℕ → Inside → ℕ → Next ℕ
-itemStep element s inside at =
+unfoldable pub itemStep : Elem → List ℕ → ℕ → Inside → ℕ → Next ℕ
+itemStep element s room inside at =
     orElse (closeAt s sequenceEnd inside at)
-    (onward (itemWith element s (inside .stop) at) (λ q. q))
+    (onward (itemWith element s room (inside .stop) at) (λ q. q))
 
 -- a sequence: items
-unfoldable pub itemsFrom : Elem → List ℕ → Inside → ℕ → Read
-itemsFrom element s inside at = walk (itemStep element s inside) (suc (inside .stop - at)) at
+unfoldable pub itemsFrom : Elem → List ℕ → ℕ → Inside → ℕ → Read
+itemsFrom element s room inside at = walk (itemStep element s room inside) (suc (inside .stop - at)) at
 
 -- an element, with room for so many sequences within one another; with room for none, a sequence is refusal 7
 unfoldable pub elementAt : List ℕ → Syntax → ℕ → Elem
 elementAt s syntax zero end at floor =
-    behind (λ inside. Refused 7) (headAt s syntax end at floor)
+    behind (λ inside. refusedAt 7 at zero) zero at (headAt s syntax end at floor)
 elementAt s syntax (suc room) end at floor =
-    behind (λ inside. itemsFrom (elementAt s syntax room) s inside (inside .from)) (headAt s syntax end at floor)
+    behind (λ inside. itemsFrom (elementAt s syntax room) s room inside (inside .from)) (suc room) at (headAt s syntax end at floor)
 
 -- a list or a sequence in a syntax, with room for so many sequences within one another
 abbrev pub scopeOf : Syntax → ℕ → Inside → Scope
@@ -89,7 +97,7 @@ unfoldable pub listAt : List ℕ → Scope → Read
 listAt s scope = listFrom (elementIn s scope) s (scope .inside) (start (scope .inside))
 
 unfoldable pub itemAt : List ℕ → Syntax → ℕ → ℕ → ℕ → Read
-itemAt s syntax room end at = itemWith (elementAt s syntax room) s end at
+itemAt s syntax room end at = itemWith (elementAt s syntax room) s room end at
 
 -- all the bytes, as one list of defined length
 abbrev pub whole : List ℕ → Inside
@@ -97,7 +105,7 @@ whole s = record { from = 0; stop = length s; loose = false }
 
 -- a data set or a command set: four sequences within one another are read, the fifth is refused
 abbrev pub dataScope : List ℕ → Syntax → Scope
-dataScope s syntax = scopeOf syntax 4 (whole s)
+dataScope s syntax = scopeOf syntax mostNested (whole s)
 
 unfoldable pub dataSet : List ℕ → Syntax → Read
 dataSet s syntax = listAt s (dataScope s syntax)

@@ -12,7 +12,7 @@ pub data Next (S : Type 0) : Type 0 where
 -- a part was read: go on from the place after it, or hand its refusal on
 abbrev pub onward : {S : Type 0} → Read → (ℕ → S) → Next S
 onward (Past q) from = again (from q)
-onward (Refused n) from = done (Refused n)
+onward (Refused stop) from = done (Refused stop)
 
 -- what follows a step, where `rest` is the walk from a further place
 abbrev pub follow : {S : Type 0} → (S → Read) → Next S → Read
@@ -21,7 +21,7 @@ follow rest (done r) = r
 
 -- at most `fuel` steps; that any fuel above the bytes left gives the same is proved (proofs/Steps.antt)
 unfoldable pub walk : {S : Type 0} → (S → Next S) → ℕ → S → Read
-walk step zero x = Refused 0
+walk step zero x = Refused (record { number = 0; place = 0; depth = 0 })
 walk step (suc fuel) x = follow (λ y. walk step fuel y) (step x)
 
 -- the states from which a walk went on

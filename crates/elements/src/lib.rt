@@ -10,19 +10,29 @@ use headers::item_head;
 use headers::tag_at;
 use syntaxes::element_head;
 ghost use mathlib.Core.Path.{_≡_};
-ghost use Prim.Native.Nat.{_≤_};
+ghost use Prim.Native.Nat.{_≤_, _-_};
 ghost use lib.ListN.{length};
-ghost use Rattle.elements.specs.Reader.{elementAt, itemAt, listAt, dataScope, dataSet};
+ghost use Rattle.elements.specs.Reader.{mostNested, refusedAt, elementAt, itemAt, listAt, dataScope, dataSet};
 
 // The delimiters that close an item's list and a sequence of undefined length.
 pub const ITEM_END: usize = 0xFFFE_E00D;
 
 pub const SEQUENCE_END: usize = 0xFFFE_E0DD;
 
-// The place after what was read, or the number of the refusal.
+// So many sequences within one another are read.
+pub const NESTED: usize = 4;
+
+// Where the reading stopped: the number of the refusal, the first byte of the header at fault, and how many sequences that lies in.
+pub struct Stop {
+    pub number: u8,
+    pub place: usize,
+    pub depth: usize,
+}
+
+// The place after what was read, or where the reading stopped.
 pub enum Read {
     Past(usize),
-    Refused(u8),
+    Refused(Stop),
 }
 
 // What a list holds under a tag: nothing, a value, or a sequence.
@@ -58,11 +68,33 @@ fn list(s: &[u8], scope: Scope) -> Read
                 floor = tag_at(s, p) + 1;
                 p = q;
             }
-            Read::Refused(n) => {
-                return Read::Refused(n);
+            Read::Refused(stop) => {
+                return Read::Refused(stop);
             }
         }
     }
+}
+
+// How many sequences a header lies in, where there is room for so many more.
+fn depth_of(room: usize) -> usize
+    ensures { λ r. ⌜ r ≡ mostNested - room ⌝ }
+{
+    if room < NESTED {
+        return NESTED - room;
+    }
+    0
+}
+
+// A header at fault, where there is room for so many sequences.
+pub fn refused(number: u8, at: usize, room: usize) -> Read
+    ensures { λ r. ⌜ r ≡ refusedAt number at room ⌝ }
+{
+    let depth = depth_of(room);
+    Read::Refused(Stop {
+        number,
+        place: at,
+        depth,
+    })
 }
 
 // One element: a value is passed over, and a sequence is read item by item.
@@ -71,11 +103,11 @@ pub fn element(s: &[u8], syntax: Syntax, room: usize, end: usize, at: usize, flo
     ensures { λ r. ⌜ r ≡ elementAt (now (s .entry)) syntax room end at floor ⌝ }
 {
     match element_head(s, syntax, end, at, floor) {
-        Head::Fault(n) => Read::Refused(n),
+        Head::Fault(n) => refused(n, at, room),
         Head::Value(part) => Read::Past(part.stop),
         Head::Nest(inside) => {
             if room == 0 {
-                return Read::Refused(7);
+                return refused(7, at, room);
             }
             let mut p = inside.from;
             loop {
@@ -87,8 +119,8 @@ pub fn element(s: &[u8], syntax: Syntax, room: usize, end: usize, at: usize, flo
                     Read::Past(q) => {
                         p = q;
                     }
-                    Read::Refused(n) => {
-                        return Read::Refused(n);
+                    Read::Refused(stop) => {
+                        return Read::Refused(stop);
                     }
                 }
             }
@@ -102,7 +134,7 @@ pub fn item(s: &[u8], syntax: Syntax, room: usize, end: usize, at: usize) -> Rea
     ensures { λ r. ⌜ r ≡ itemAt (now (s .entry)) syntax room end at ⌝ }
 {
     match item_head(s, end, at) {
-        Head::Fault(n) => Read::Refused(n),
+        Head::Fault(number) => refused(number, at, room),
         Head::Value(part) => Read::Past(part.stop),
         Head::Nest(inside) => list(
             s,
@@ -126,7 +158,7 @@ pub fn data_scope(s: &[u8], syntax: Syntax) -> Scope
     };
     Scope {
         syntax,
-        room: 4,
+        room: NESTED,
         inside,
     }
 }

@@ -17,6 +17,7 @@ use Rattle.uids.proofs.Made.{made-short}
 use Rattle.headers.specs.declared.Syntax.{Syntax}
 use Rattle.headers.specs.declared.Syntax.the-variants.{Implicit}
 use Rattle.writing.specs.Bytes.{written}
+use Rattle.elements.specs.declared.Stop.{Stop}
 use Rattle.rules.specs.declared.Name.{Name}
 use Rattle.rules.specs.declared.Numbers.{Numbers}
 use Rattle.rules.specs.declared.Core.{Core}
@@ -28,7 +29,7 @@ use Rattle.rules.specs.declared.Request.{Request}
 use Rattle.rules.specs.Lists.{from}
 use Rattle.rules.specs.Records.{rootOf, uidOf, instanceOf, syntaxIn}
 use Rattle.rules.specs.Commands.{uidAt}
-use Rattle.rules.specs.declared.Note.the-variants.{NoNote, FilmsQueued, PictureAt}
+use Rattle.rules.specs.declared.Note.the-variants.{NoNote, FilmsQueued, PictureAt, StoppedAt}
 use Rattle.rules.specs.Responses.{reply, responseTree, filmTree, dataSetOf}
 use Rattle.rules.specs.Checks.{classPart, fieldOf, actionOf, says, replyTo}
 use Rattle.rules.specs.Outcomes.{reportBytes}
@@ -124,6 +125,10 @@ module _ (status command size : ℕ) where
   pub note-picture : (number place extent : ℕ) → reportBy status command size 2 number place extent ≡ reportOf status command size (PictureAt number place extent)
   unfolding reportBy reportOf
   note-picture number place extent = refl
+
+  pub note-stopped : (stop : Stop) → reportBy status command size 3 (stop .number) (stop .place) (stop .depth) ≡ reportOf status command size (StoppedAt stop)
+  unfolding reportBy reportOf
+  note-stopped stop = refl
 
 -- The whole response.
 

@@ -148,19 +148,40 @@ fn put_command(
     )
 }
 
-// The report with a note: none, how many films were queued, or a picture.
+// The report with a note: none, how many films were queued, a picture, or where the reading stopped.
 fn put_note(report: &mut [u8], status: u16, command: usize, size: usize, note: Note)
     requires { ⌜ 20 ≤ length (now report) ⌝ }
     ensures { λ _. ⌜ now (report .exit) ≡ laid (now (report .entry)) 0 (reportOf status command size note) ⌝ }
 {
     match note {
         Note::NoNote => put_report(report, status, command, size, 0, 0, 0, 0),
-        Note::FilmsQueued(films) => put_report(report, status, command, size, 1, films, 0, 0),
+        Note::FilmsQueued(films) => {
+            put_report(report, status, command, size, 1, films as usize, 0, 0)
+        }
         Note::PictureAt {
             number,
             place,
             length,
-        } => put_report(report, status, command, size, 2, number, place, length),
+        } => put_report(
+            report,
+            status,
+            command,
+            size,
+            2,
+            number as usize,
+            place as usize,
+            length as usize,
+        ),
+        Note::StoppedAt(stop) => put_report(
+            report,
+            status,
+            command,
+            size,
+            3,
+            stop.number as usize,
+            stop.place,
+            stop.depth,
+        ),
     }
 }
 

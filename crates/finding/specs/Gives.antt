@@ -9,4 +9,4 @@ use Rattle.elements.specs.Find.{found}
 -- what its header says, if the whole element is read
 abbrev pub gives : Read → Head → Found
 gives (Past q) head = found head
-gives (Refused n) head = Missing
+gives (Refused stop) head = Missing

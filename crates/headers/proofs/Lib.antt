@@ -1,2 +1,3 @@
 -- The laws of headers.
 pub mod Within
+pub mod Before

@@ -7,7 +7,7 @@ use native.Mathlib.Omega.{arith}
 use lib.Dec.{ltb, eqb}
 use borrow.Author.Tests.{ltb-false, eq-eqb}
 use Rattle.choice.specs.Pick.{not}
-use Rattle.choice.proofs.Picks.{pick-cases, first-cases, both-second, both-first}
+use Rattle.choice.proofs.Picks.{pick-cases, number-cases, both-second, both-first}
 use Rattle.octets.specs.Octets.{numberAt}
 use Rattle.headers.specs.declared.Syntax.{Syntax}
 use Rattle.headers.specs.declared.Syntax.the-variants.{Implicit, Explicit}
@@ -27,8 +27,12 @@ CloseIn at end Not = Unit {0}
 abbrev pub Fits : ℕ → ℕ → ℕ → ℕ → Type 0
 Fits low from stop end = (low ≤ from) × ((from ≤ stop) × (stop ≤ end))
 
+-- the reader's refusals are 1 to 7
+abbrev pub mostRefusal : ℕ
+mostRefusal = 7
+
 abbrev pub HeadIn : ℕ → ℕ → Head → Type 0
-HeadIn low end (Fault n) = Unit {0}
+HeadIn low end (Fault n) = n ≤ mostRefusal
 HeadIn low end (Value part) = Fits low (part .from) (part .stop) end
 HeadIn low end (Nest inside) = Fits low (inside .from) (inside .stop) end
 
@@ -56,7 +60,7 @@ mark-size s Implicit at e = refl
 length-in : (low from end vr length : ℕ) → low ≤ from → from ≤ end → HeadIn low end (lengthHead from end vr length)
 unfolding lengthHead
 length-in low from end vr length l h =
-    first-cases (HeadIn low end) Fault (lengthRules from end vr length) (content from end vr length) (λ n. tt)
+    number-cases (HeadIn low end) (λ n. n ≤ mostRefusal) Fault (lengthRules from end vr length) (content from end vr length) (omega arith) (λ n g. g)
     (λ k. pick-cases (HeadIn low end) (eqb vr SQ) _ _
     (λ q. pick-cases (λ (i : Inside). Fits low (i .from) (i .stop) end) (undefined length) _ _
     (λ u. (l, (h, omega arith)))
@@ -68,7 +72,7 @@ length-in low from end vr length l h =
 pub head-in : (s : List ℕ) (syntax : Syntax) (end at floor : ℕ) → at ≤ end → HeadIn (at + 8) end (headAt s syntax end at floor)
 unfolding headAt
 head-in s syntax end at floor h =
-    first-cases (HeadIn (at + 8) end) Fault (elementRules s syntax end at floor) (lengthHead (at + sizeAt s syntax at) end (vrAt s syntax at) (lengthAt s syntax at)) (λ n. tt)
+    number-cases (HeadIn (at + 8) end) (λ n. n ≤ mostRefusal) Fault (elementRules s syntax end at floor) (lengthHead (at + sizeAt s syntax at) end (vrAt s syntax at) (lengthAt s syntax at)) (omega arith) (λ n g. g)
     (λ k. let r : sizeAt s syntax at ≤ end - at = ltb-false _ _ (k .0) in
     let l = size-least s syntax at in
     length-in (at + 8) (at + sizeAt s syntax at) end (vrAt s syntax at) (lengthAt s syntax at) (omega arith) (omega arith))
@@ -76,5 +80,5 @@ head-in s syntax end at floor h =
 pub item-head-in : (s : List ℕ) (end at : ℕ) → at ≤ end → HeadIn (at + 8) end (itemHeadAt s end at)
 unfolding itemHeadAt
 item-head-in s end at h =
-    first-cases (HeadIn (at + 8) end) Fault (itemRules s end at) (lengthHead (at + 8) end SQ (numberAt 4 s (at + 4))) (λ n. tt)
+    number-cases (HeadIn (at + 8) end) (λ n. n ≤ mostRefusal) Fault (itemRules s end at) (lengthHead (at + 8) end SQ (numberAt 4 s (at + 4))) (omega arith) (λ n g. g)
     (λ k. let r : 8 ≤ end - at = ltb-false _ _ (k .0) in length-in (at + 8) (at + 8) end SQ (numberAt 4 s (at + 4)) (omega arith) (omega arith))

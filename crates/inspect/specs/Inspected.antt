@@ -1,19 +1,34 @@
--- What the exported call answers.
+-- What the exported call answers, and leaves in the buffer for place and depth.
 use Prim.Native.Nat.{ℕ}
 use mathlib.Core.List.{List}
-use lib.Dec.{leb}
+use lib.Dec.{ltb, leb}
+use lib.ListN.{length}
 use Rattle.choice.specs.Pick.{pick, both}
+use Rattle.fields.specs.Format.{write, number, _then_}
 use Rattle.headers.specs.Header.{syntaxOf}
+use Rattle.elements.specs.declared.Stop.{Stop}
 use Rattle.elements.specs.declared.Read.{Read}
 use Rattle.elements.specs.declared.Read.the-variants.{Past, Refused}
 use Rattle.elements.specs.Reader.{dataSet}
 
--- 0 where all was read, else the refusal
-abbrev pub number : Read → ℕ
-number (Past q) = 0
-number (Refused n) = n
+pub record Inspected : Type 0 where
+  pub answer : ℕ
+  pub stop : List ℕ
 
--- the number for the bytes in implicit VR (1) or explicit VR (2); 8 for another syntax
-unfoldable pub inspected : List ℕ → ℕ → ℕ
-inspected s syntax =
-    pick (both (leb 1 syntax) (leb syntax 2)) (number (dataSet s (syntaxOf syntax))) 8
+abbrev pub numbered : ℕ → List ℕ → Inspected
+numbered n b = record { answer = n; stop = b }
+
+-- place and depth, of four bytes each
+unfoldable pub stopLaid : List ℕ → Stop → List ℕ
+stopLaid b stop = write (number 4 then number 4) (stop .place, stop .depth) b 0
+
+-- 0 where all was read, else the refusal, and where the reading stopped
+abbrev pub told : List ℕ → Read → Inspected
+told b (Past q) = numbered 0 b
+told b (Refused stop) = numbered (stop .number) (stopLaid b stop)
+
+-- for the bytes in implicit VR (1) or explicit VR (2); 8 for another syntax, 9 for a buffer of less than 8 bytes
+unfoldable pub inspected : List ℕ → ℕ → List ℕ → Inspected
+inspected s syntax b =
+    pick (ltb (length b) 8) (numbered 9 b)
+    (pick (both (leb 1 syntax) (leb syntax 2)) (told b (dataSet s (syntaxOf syntax))) (numbered 8 b))

@@ -3,3 +3,4 @@ mod Requests
 mod Pictures
 mod Places
 mod Collecting
+mod Stops

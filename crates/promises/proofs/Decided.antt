@@ -6,12 +6,15 @@ use mathlib.Core.List.{List, [], _∷_, _++_}
 use lib.Dec.{eqb}
 use Rattle.choice.specs.Pick.{not}
 use Rattle.choice.specs.Rules.{Rule, _⇒_}
-use Rattle.choice.proofs.Picks.{pick-cases, Kept, first-cases}
+use Rattle.choice.proofs.Picks.{pick-cases, Kept, first-cases, Numbers, number-cases}
 use Rattle.headers.specs.declared.Part.{Part}
+use Rattle.elements.specs.declared.Stop.{Stop}
+use Rattle.elements.specs.declared.Read.{Read}
+use Rattle.elements.specs.declared.Read.the-variants.{Past, Refused}
 use Rattle.strike.specs.Service.{DataSet, Result, fails, does}
 use Rattle.rules.specs.declared.Core.{Core}
 use Rattle.rules.specs.declared.Verdict.{Verdict}
-use Rattle.rules.specs.declared.Note.the-variants.{NoNote}
+use Rattle.rules.specs.declared.Note.the-variants.{NoNote, StoppedAt}
 use Rattle.rules.specs.declared.Operation.{Operation}
 use Rattle.rules.specs.declared.Operation.the-variants.{Echo, Create, Set, Act, Delete}
 use Rattle.rules.specs.declared.Command.{Command}
@@ -26,12 +29,35 @@ use Rattle.rules.specs.Responses.{Reply}
 use Rattle.rules.specs.Effects.{sessionCreated, filmCreated, sessionSet, filmAt, filmSet, boxSet, sessionDeleted, filmDeleted, printed}
 use Rattle.rules.specs.declared.Class.{Class}
 use Rattle.rules.specs.declared.Class.the-variants.{Verification, Sessions, Films, Boxes, UnknownClass}
-use Rattle.rules.specs.Checks.{classOf, generalRules, createRules, targetRules, newSessionRules, newFilmRules, boxRules, sessionPrintRules, filmPrintRules, sentUid, createPlan, setPlan, actionPlan, deletePlan, planOf, failed, replyTo, resultOf, decideRequest, decideCommand, decide}
+use Rattle.rules.specs.Checks.{classOf, generalRules, createRules, targetRules, newSessionRules, newFilmRules, boxRules, sessionPrintRules, filmPrintRules, sentUid, createPlan, setPlan, actionPlan, deletePlan, planOf, failed, readingOf, unlessStopped, replyTo, resultOf, decideRequest, decideCommand, decide}
 
 -- the rules of two lists are kept
 pub kept-both : (a b : List Rule) → Kept (a ++ b) → Kept a × Kept b
 kept-both [] b h = (tt, h)
 kept-both ((broken ⇒ n) ∷ a) b h = let r = kept-both a b (h .1) in ((h .0, r .0), r .1)
+
+-- a verdict that stands unless the reading of the data set stopped
+stopped-cases : (P : Verdict → Type 0) (k : Core) (c : List ℕ) (r : Request) (x : Read) (v : Verdict) → ((stop : Stop) → x ≡ Refused stop → P (failed k c r (StoppedAt stop) 0x0110)) → P v → P (unlessStopped k c r x v)
+stopped-cases P k c r (Past q) v f g = g
+stopped-cases P k c r (Refused stop) v f g = f stop refl
+
+-- What a request comes to: the first of checks 2 to 4 or of 6 to 10 that applies, where the reading stopped, or what it asks for.
+module _ (P : Verdict → Type 0) (k : Core) (c : List ℕ) (d : DataSet) (r : Request)
+    (stopped : (stop : Stop) → readingOf (syntaxIn k) (d .came) (d .bytes) ≡ Refused stop → P (failed k c r (StoppedAt stop) 0x0110))
+    (done : Kept (planOf k c (d .bytes) (r .operation) .rules) → P (planOf k c (d .bytes) (r .operation) .verdict)) where
+  pub numbered-cases : (Q : ℕ → Type 0) → Numbers Q (generalRules c (d .came) (r .operation)) → Numbers Q (planOf k c (d .bytes) (r .operation) .rules) → ((n : ℕ) → Q n → P (failed k c r NoNote n)) → P (decideRequest k c d r)
+  unfolding decideRequest
+  numbered-cases Q general planned f =
+      number-cases P Q (failed k c r NoNote) (generalRules c (d .came) (r .operation)) _ general f
+      (λ _. stopped-cases P k c r (readingOf (syntaxIn k) (d .came) (d .bytes)) _ stopped
+      (number-cases P Q (failed k c r NoNote) (planOf k c (d .bytes) (r .operation) .rules) _ planned f done))
+
+  pub request-cases : ((n : ℕ) → P (failed k c r NoNote n)) → P (decideRequest k c d r)
+  unfolding decideRequest
+  request-cases f =
+      first-cases P (failed k c r NoNote) (generalRules c (d .came) (r .operation)) _ f
+      (λ _. stopped-cases P k c r (readingOf (syntaxIn k) (d .came) (d .bytes)) _ stopped
+      (first-cases P (failed k c r NoNote) (planOf k c (d .bytes) (r .operation) .rules) _ f done))
 
 -- a fact holds after each effect
 pub record After (P : Core → Type 0) (k : Core) : Type 0 where
@@ -113,11 +139,11 @@ module _ (P : Core → Type 0) (k : Core) (after : After P k) where
   plan-done c d (Delete r) h = delete-done (uidAt c (r .instance)) (named k (uidAt c (r .instance))) refl
 
   request-done : (c : List ℕ) (d : DataSet) (r : Request) → OfDone P (resultOf k c r (decideRequest k c d r))
-  unfolding decideRequest
   request-done c d r =
-      first-cases (λ v. OfDone P (resultOf k c r v)) (failed k c r NoNote) (generalRules k c d (r .operation) ++ planOf k c (d .bytes) (r .operation) .rules) (planOf k c (d .bytes) (r .operation) .verdict)
+      request-cases (λ v. OfDone P (resultOf k c r v)) k c d r
+      (λ stop _. tt)
+      (λ h. result-done P k c r (planOf k c (d .bytes) (r .operation) .verdict) (plan-done c d (r .operation) h))
       (λ n. tt)
-      (λ h. result-done P k c r (planOf k c (d .bytes) (r .operation) .verdict) (plan-done c d (r .operation) (kept-both (generalRules k c d (r .operation)) (planOf k c (d .bytes) (r .operation) .rules) h .1)))
 
   command-done : (c : List ℕ) (d : DataSet) (o : Command) → OfDone P (decideCommand k c d o)
   command-done c d Unreadable = tt

@@ -9,7 +9,7 @@ use lib.Dec.{eqb, leb, ltb}
 use lib.ListN.{length}
 use borrow.Author.Tests.{ltb-false, eqb-false}
 use Rattle.choice.specs.Pick.{both, not}
-use Rattle.choice.proofs.Picks.{pick-cases, not-true, not-false, Kept}
+use Rattle.choice.proofs.Picks.{pick-cases, not-true, not-false, Kept, number-cases}
 use Rattle.octets.specs.Octets.{laid, Bytes}
 use Rattle.strike.specs.Service.{DataSet, Result, fails, does, feed, Check, passes, refuses}
 use Rattle.strike.specs.Machine.{Fragment, fragmentIn, Outcome, ignores, waits, drops, asks, Records, collect, laidBy, answered, carriedOut, fed, checked, step, laidIf}
@@ -31,7 +31,7 @@ use Rattle.promises.proofs.Kept.{sound-parts}
 use Rattle.promises.proofs.Unpacked.{unpacked-sized}
 use Rattle.promises.proofs.Next.{room-most}
 use Rattle.promises.proofs.Decided.{replyOf}
-use Rattle.promises.proofs.Notes.{NoteWithin, below-cases, note-within}
+use Rattle.promises.proofs.Notes.{NoteWithin, note-within}
 use Rattle.promises.proofs.EntryBack.{EntryMeans, entryAt, entry-means-laid}
 use Rattle.promises.proofs.ReportBack.{ReportMeans, report-means-laid}
 use Rattle.strike.proofs.Opened.{theMachine}
@@ -128,7 +128,7 @@ unfolding theMachine feeds check
 feed-means l fragment =
     let s = recordsIn (unpack (l .records)) (l .message) in
     let f = fragmentIn (s .core .opened .context) fragment in
-    below-cases (IfResponse l) 19 (nothingFed l) (recordsRules (l .records)) _ (omega arith) (λ n h z. absurd (omega arith))
-    (λ kept. below-cases (λ (x : Check). IfResponse l (fedTo l (laidIf printing x s f (l .message)) (checked printing x s (feed fragment (lengths l))))) 19 refuses (feedRules (s .core) (lengths l)) passes (omega arith)
+    number-cases (IfResponse l) (λ n. n < 19) (nothingFed l) (recordsRules (l .records)) _ (omega arith) (λ n h z. absurd (omega arith))
+    (λ kept. number-cases (λ (x : Check). IfResponse l (fedTo l (laidIf printing x s f (l .message)) (checked printing x s (feed fragment (lengths l))))) (λ n. n < 19) refuses (feedRules (s .core) (lengths l)) passes (omega arith)
     (λ n h. refused-meant l s (l .message) n h)
     (λ rules. fed-meant l kept rules f))

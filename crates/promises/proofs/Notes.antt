@@ -1,15 +1,23 @@
--- Statuses are of 2 bytes; a note tells of 1 to 8 films queued, or of a picture whose pixels lie within the data set.
+-- Statuses are of 2 bytes; a note tells of 1 to 8 films queued, of a picture whose pixels lie within the data set, or of a place within it.
 -- Assumes nothing.
 use Prim.Native.Nat.{ℕ, _+_, _<_, _≤_}
 use mathlib.Core.Path.{_≡_, refl, ap}
 use mathlib.Core.Bool.{Bool, true}
-use mathlib.Core.List.{List, [], _∷_, _++_}
+use mathlib.Core.List.{List, [], _∷_}
 use native.Mathlib.Omega.{arith}
 use lib.ListN.{length}
 use borrow.Author.Tests.{eqb-false}
 use Rattle.choice.specs.Pick.{pick, both}
-use Rattle.choice.specs.Rules.{Rule, _⇒_, firstOr}
-use Rattle.choice.proofs.Picks.{pick-cases, both-second, Kept}
+use Rattle.choice.specs.Rules.{_⇒_}
+use Rattle.choice.proofs.Picks.{pick-cases, both-second, Kept, Numbers}
+use Rattle.headers.specs.declared.Syntax.{Syntax}
+use Rattle.headers.proofs.Within.{mostRefusal}
+use Rattle.elements.specs.declared.Stop.{Stop}
+use Rattle.elements.specs.declared.Read.the-variants.{Refused}
+use Rattle.elements.specs.Reader.{mostNested}
+use Rattle.elements.proofs.Stops.{stop-within}
+use Rattle.strike.specs.declared.Came.{Came}
+use Rattle.strike.specs.declared.Came.the-variants.{Absent, Whole, TooLong}
 use Rattle.strike.specs.Service.{DataSet, Result}
 use Rattle.rules.specs.Bounds.{mostFilms, noneLeft}
 use Rattle.rules.specs.declared.Name.{Name}
@@ -28,15 +36,15 @@ use Rattle.rules.specs.declared.Image.{Image}
 use Rattle.rules.specs.declared.Image.the-variants.{Keeps, Erases, TooMany, Fills}
 use Rattle.rules.specs.Attributes.{Listing, listingOf, attributeRules, boxStandings, imageIn, isFill}
 use Rattle.rules.specs.declared.Note.{Note}
-use Rattle.rules.specs.declared.Note.the-variants.{NoNote, FilmsQueued, PictureAt}
+use Rattle.rules.specs.declared.Note.the-variants.{NoNote, FilmsQueued, PictureAt, StoppedAt}
 use Rattle.rules.specs.Responses.{Reply, reply}
 use Rattle.rules.specs.Effects.{noPictureLeft, filmAt, noneFilled}
 use Rattle.rules.specs.Sound.{coreSound}
 use Rattle.rules.specs.declared.Class.{Class}
 use Rattle.rules.specs.declared.Class.the-variants.{Verification, Sessions, Films, Boxes, UnknownClass}
-use Rattle.rules.specs.Checks.{classOf, generalRules, createRules, targetRules, boxRules, Plan, nothing, imageNote, sentUid, createPlan, setPlan, actionPlan, deletePlan, planOf, failed, resultOf, decideRequest, decide, decideCommand}
+use Rattle.rules.specs.Checks.{classOf, generalRules, createRules, targetRules, boxRules, Plan, nothing, imageNote, sentUid, createPlan, setPlan, actionPlan, deletePlan, planOf, readingOf, resultOf, decideRequest, decide, decideCommand}
 use Rattle.promises.proofs.Facts.{between-true, core-facts, numbers-facts, films-few}
-use Rattle.promises.proofs.Decided.{reply-of, kept-both, replyOf}
+use Rattle.promises.proofs.Decided.{reply-of, kept-both, numbered-cases, replyOf}
 use Rattle.promises.proofs.Pictures.{pixels-within}
 use Rattle.promises.proofs.Places.{films-under}
 
@@ -45,17 +53,10 @@ abbrev pub NoteWithin : ℕ → Note → Type 0
 NoteWithin bytes NoNote = Unit {0}
 NoteWithin bytes (FilmsQueued n) = (1 ≤ n) × (n ≤ mostFilms)
 NoteWithin bytes (PictureAt n place size) = (1 ≤ n) × (n < noneLeft) × (place + size ≤ bytes)
+NoteWithin bytes (StoppedAt stop) = (stop .number ≤ mostRefusal) × (stop .place ≤ bytes) × (stop .depth ≤ mostNested)
 
--- the number of each rule is below a bound
-abbrev pub AllBelow : ℕ → List Rule → Type 0
-AllBelow bound [] = Unit {0}
-AllBelow bound ((broken ⇒ n) ∷ rules) = (n < bound) × AllBelow bound rules
-
--- what is given by the first rule that is broken, or else where none is
-pub below-cases : {A : Type 0} (P : A → Type 0) (bound : ℕ) (refused : ℕ → A) (rules : List Rule) (x : A) → AllBelow bound rules → ((n : ℕ) → n < bound → P (refused n)) → (Kept rules → P x) → P (firstOr refused rules x)
-below-cases P bound refused [] x h f g = g tt
-below-cases P bound refused ((broken ⇒ n) ∷ rules) x h f g =
-    pick-cases P broken (refused n) (firstOr refused rules x) (λ e. f n (h .0)) (λ e. below-cases P bound refused rules x (h .1) f (λ k. g (e, k)))
+abbrev Short : ℕ → Type 0
+Short status = status < 65536
 
 -- A status of 2 bytes, and a note.
 
@@ -64,10 +65,16 @@ Tells bytes status note = (status < 65536) × NoteWithin bytes note
 
 -- the statuses of a plan's rules, and what is told where none of them is broken
 abbrev PlanTells : ℕ → Plan → Type 0
-PlanTells bytes p = AllBelow 65536 (p .rules) × (Kept (p .rules) → Tells bytes (p .verdict .status) (p .verdict .note))
+PlanTells bytes p = Numbers Short (p .rules) × (Kept (p .rules) → Tells bytes (p .verdict .status) (p .verdict .note))
 
 abbrev ReplyTells : ℕ → Result Core Reply → Type 0
 ReplyTells bytes x = Tells bytes (replyOf x .status) (replyOf x .note)
+
+-- where the reading of a data set stopped
+stop-told : (syntax : Syntax) (came : Came) (d : List ℕ) {stop : Stop} → readingOf syntax came d ≡ Refused stop → NoteWithin (length d) (StoppedAt stop)
+stop-told syntax Absent d e = let z : _≡_ {A = ℕ} 0 1 = cc in absurd (omega arith)
+stop-told syntax Whole d e = stop-within d syntax e
+stop-told syntax TooLong d e = let z : _≡_ {A = ℕ} 0 1 = cc in absurd (omega arith)
 
 -- nothing is told but that all is well
 quiet : (bytes : ℕ) → Tells bytes 0 NoNote
@@ -147,13 +154,14 @@ module _ (k : Core) (sound : coreSound k ≡ true) where
       ((omega arith, (omega arith, p .0)), λ kept. p .1 (kept .1 .1))
 
   verdict-tells : (c : List ℕ) (d : DataSet) (r : Request) → Tells (length (d .bytes)) (decideRequest k c d r .status) (decideRequest k c d r .note)
-  unfolding decideRequest generalRules
+  unfolding generalRules
   verdict-tells c d r =
       let p = plan-tells c d (r .operation) in
-      below-cases (λ v. Tells (length (d .bytes)) (v .status) (v .note)) 65536 (failed k c r NoNote) (generalRules k c d (r .operation) ++ planOf k c (d .bytes) (r .operation) .rules) (planOf k c (d .bytes) (r .operation) .verdict)
-      (omega arith, (omega arith, (omega arith, (omega arith, p .0))))
+      numbered-cases (λ v. Tells (length (d .bytes)) (v .status) (v .note)) k c d r
+      (λ stop e. (omega arith, stop-told (syntaxIn k) (d .came) (d .bytes) e))
+      (p .1)
+      Short (omega arith) (p .0)
       (λ n h. (h, tt))
-      (λ kept. p .1 (kept .1 .1 .1 .1))
 
   request-tells : (c : List ℕ) (d : DataSet) (r : Request) → ReplyTells (length (d .bytes)) (resultOf k c r (decideRequest k c d r))
   unfolding reply
@@ -171,7 +179,7 @@ module _ (k : Core) (sound : coreSound k ≡ true) where
     unfolding decide
     status-small = command-tells c d (understood c) .0
 
-    -- A note tells of 1 to 8 films, or of a picture's number from 1 to 4,294,967,295 and of pixels that lie within the data set.
+    -- A note tells of 1 to 8 films, of a picture's number from 1 to 4,294,967,295 and of pixels that lie within the data set, or of where its reading stopped.
     pub note-within : NoteWithin (length (d .bytes)) (replyOf (decide k c d) .note)
     unfolding decide
     note-within = command-tells c d (understood c) .1

@@ -3,14 +3,14 @@
 use Prim.Native.Nat.{ℕ, _-_, _≤_}
 use mathlib.Core.Path.{_≡_, refl}
 use mathlib.Core.Bool.{true, false}
-use mathlib.Core.List.{List, [], _++_}
+use mathlib.Core.List.{List, []}
 use mathlib.Core.Option.{Option, none, some}
 use native.Mathlib.Omega.{arith}
 use lib.Dec.{eqb}
 use lib.ListN.{length, replicate}
 use lib.Seq.{take-append-seam}
 use Rattle.choice.specs.Pick.{both}
-use Rattle.choice.proofs.Picks.{pick-cases, Kept, first-cases, both-true}
+use Rattle.choice.proofs.Picks.{pick-cases, Kept, both-true}
 use Rattle.uids.specs.Uids.{isUid}
 use Rattle.strike.specs.Service.{DataSet, Result, fails, does}
 use Rattle.rules.specs.declared.Name.{Name}
@@ -34,12 +34,12 @@ use Rattle.rules.specs.declared.Note.the-variants.{NoNote}
 use Rattle.rules.specs.Responses.{Reply, reply, dataSetOf, ContentsFit}
 use Rattle.rules.specs.declared.Class.{Class}
 use Rattle.rules.specs.declared.Class.the-variants.{Verification, Sessions, Films, Boxes, UnknownClass}
-use Rattle.rules.specs.Checks.{classOf, classPart, isSent, createRules, generalRules, quietly, createPlan, setPlan, actionPlan, deletePlan, planOf, sentUid, newUid, failedName, says, saysUnknown, failed, resultOf, decideRequest, decideCommand, decide}
+use Rattle.rules.specs.Checks.{classOf, classPart, isSent, createRules, quietly, createPlan, setPlan, actionPlan, deletePlan, planOf, sentUid, newUid, failedName, says, saysUnknown, resultOf, decideRequest, decideCommand, decide}
 use Rattle.rules.specs.Sound.{numbersSound, coreSound}
 use Rattle.promises.proofs.Facts.{core-facts, counted, name-uid}
 use Rattle.promises.proofs.Later.{serials-sound}
 use Rattle.promises.proofs.NewNames.{Sendable, sendable, name-from-sound}
-use Rattle.promises.proofs.Decided.{kept-both, replyOf, reply-of}
+use Rattle.promises.proofs.Decided.{kept-both, request-cases, replyOf, reply-of}
 use Rattle.promises.proofs.ReplySizes.{UidOrNone, SaysUids, reply-fits}
 use Rattle.promises.proofs.ReadBack.{UidMeant, ResponseMeans, response-means}
 use Rattle.promises.proofs.FilmBack.{FilmMeans, new-film-few, new-film-left, new-film-fits, new-film-means}
@@ -182,11 +182,11 @@ done-told k c d (Act r) n s kept = action-told k (uidAt c (r .instance)) (s .1) 
 done-told k c d (Delete r) n s kept = delete-told k (uidAt c (r .instance)) (s .1) (named k (uidAt c (r .instance)))
 
 verdict-told : (k : Core) (c : List ℕ) (d : DataSet) (r : Request) → numbersSound (k .numbers) ≡ true → UidsKnown c (r .operation) → Told k (decideRequest k c d r)
-unfolding decideRequest
 verdict-told k c d r h s =
-    first-cases (Told k) (failed k c r NoNote) (generalRules k c d (r .operation) ++ planOf k c (d .bytes) (r .operation) .rules) (planOf k c (d .bytes) (r .operation) .verdict)
+    request-cases (Told k) k c d r
+    (λ stop _. record { instance = failed-uid (k .numbers) c (r .operation) s; fit = tt; carries = noData })
+    (λ kept. done-told k c d (r .operation) h s kept)
     (λ status. record { instance = failed-uid (k .numbers) c (r .operation) s; fit = tt; carries = noData })
-    (λ kept. done-told k c d (r .operation) h s (kept-both (generalRules k c d (r .operation)) (planOf k c (d .bytes) (r .operation) .rules) kept .1))
 
 -- Replies.
 

@@ -16,7 +16,7 @@ use Rattle.rules.specs.declared.Command.{Command}
 use Rattle.rules.specs.declared.Command.the-variants.{Unreadable, Unknown, Known}
 use Rattle.rules.specs.Commands.{numberIn, understood}
 use Rattle.rules.specs.declared.Note.{Note}
-use Rattle.rules.specs.declared.Note.the-variants.{NoNote, FilmsQueued, PictureAt}
+use Rattle.rules.specs.declared.Note.the-variants.{NoNote, FilmsQueued, PictureAt, StoppedAt}
 use Rattle.rules.specs.Responses.{Says, Reply}
 use Rattle.rules.specs.Sound.{coreSound}
 use Rattle.rules.specs.Checks.{decide}
@@ -27,18 +27,19 @@ use Rattle.promises.proofs.Packed.{from-start}
 use Rattle.promises.proofs.ReadBack.{number-small, ResponseMeans}
 use Rattle.promises.proofs.Replies.{carries-fits, AnsweredUnknown, AnsweredCommand, decide-answered}
 
--- the numbers of a note: its kind (0 none, 1 films queued, 2 a picture), and three more
+-- the numbers of a note: its kind (0 none, 1 films queued, 2 a picture, 3 a reading that stopped), and three more
 pub record NoteNumbers : Type 0 where
   pub kind : ℕ
   pub first : ℕ
   pub second : ℕ
   pub third : ℕ
 
--- how many films were queued; a picture's number, and the place and the length of its pixels
+-- how many films were queued; a picture's number, and the place and the length of its pixels; the refusal's number, place and depth
 abbrev pub numbersOf : Note → NoteNumbers
 numbersOf NoNote = record { kind = 0; first = 0; second = 0; third = 0 }
 numbersOf (FilmsQueued n) = record { kind = 1; first = n; second = 0; third = 0 }
 numbersOf (PictureAt n place size) = record { kind = 2; first = n; second = place; third = size }
+numbersOf (StoppedAt stop) = record { kind = 3; first = stop .number; second = stop .place; third = stop .depth }
 
 -- What the bytes of a report mean, read by place: status, length of command, length of data set and kind of note of 2 bytes, three numbers of 4.
 pub record ReportMeans (s : List ℕ) (r : Reply) : Type 0 where
@@ -60,11 +61,13 @@ unfolding octets
 note-bytes NoNote = refl
 note-bytes (FilmsQueued n) = refl
 note-bytes (PictureAt n place size) = refl
+note-bytes (StoppedAt stop) = refl
 
 kind-small : (note : Note) → numbersOf note .kind < 65536
 kind-small NoNote = omega arith
 kind-small (FilmsQueued n) = omega arith
 kind-small (PictureAt n place size) = omega arith
+kind-small (StoppedAt stop) = omega arith
 
 -- a number of a note is of 4 bytes
 abbrev pub NoteFits : Note → Type 0
@@ -118,6 +121,7 @@ note-fits : (bytes : ℕ) (note : Note) → bytes ≤ mostRoom → NoteWithin by
 note-fits bytes NoNote h w = omega arith
 note-fits bytes (FilmsQueued n) h w = omega arith
 note-fits bytes (PictureAt n place size) h w = omega arith
+note-fits bytes (StoppedAt stop) h w = omega arith
 
 -- command and data set fit their buffers
 abbrev pub LengthsFit : Reply → Type 0

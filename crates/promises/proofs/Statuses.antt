@@ -6,12 +6,13 @@ use mathlib.Core.Bool.{Bool, true, false}
 use mathlib.Core.List.{List, [], _∷_, _++_}
 use lib.Dec.{eqb}
 use Rattle.choice.specs.Pick.{pick, not}
-use Rattle.choice.specs.Rules.{Rule, _⇒_, firstOr}
+use Rattle.choice.specs.Rules.{Rule, _⇒_}
+use Rattle.choice.proofs.Picks.{Numbers, numbers-both}
 use Rattle.headers.specs.declared.Part.{Part}
+use Rattle.strike.specs.declared.Came.{Came}
 use Rattle.strike.specs.Service.{DataSet, Result, fails, does}
 use Rattle.rules.specs.declared.Name.{Name}
 use Rattle.rules.specs.declared.Core.{Core}
-use Rattle.rules.specs.declared.Note.the-variants.{NoNote}
 use Rattle.rules.specs.declared.Operation.{Operation}
 use Rattle.rules.specs.declared.Operation.the-variants.{Echo, Create, Set, Act, Delete}
 use Rattle.rules.specs.declared.Request.{Request}
@@ -27,7 +28,8 @@ use Rattle.rules.specs.Responses.{isFailure, Reply, reply}
 use Rattle.rules.specs.Effects.{noneFilled}
 use Rattle.rules.specs.declared.Class.{Class}
 use Rattle.rules.specs.declared.Class.the-variants.{Verification, Sessions, Films, Boxes, UnknownClass}
-use Rattle.rules.specs.Checks.{classOf, generalRules, createRules, targetRules, Plan, sentUid, createPlan, setPlan, actionPlan, deletePlan, also, planOf, failed, resultOf, decideRequest, decideCommand, decide}
+use Rattle.rules.specs.Checks.{classOf, generalRules, createRules, targetRules, Plan, sentUid, createPlan, setPlan, actionPlan, deletePlan, also, planOf, resultOf, decideRequest, decideCommand, decide}
+use Rattle.promises.proofs.Decided.{numbered-cases}
 
 -- the status of a failure, and of what is done
 abbrev pub Fails : ℕ → Type 0
@@ -44,21 +46,11 @@ Statused (does k r) = Succeeds (r .status)
 -- Every rule has the status of a failure.
 
 abbrev Failing : List Rule → Type 0
-Failing [] = Unit {0}
-Failing ((broken ⇒ n) ∷ rules) = Fails n × Failing rules
+Failing = Numbers Fails
 
-failing-both : (a b : List Rule) → Failing a → Failing b → Failing (a ++ b)
-failing-both [] b f g = g
-failing-both ((broken ⇒ n) ∷ a) b f g = (f .0, failing-both a b (f .1) g)
-
-failing-cases : {A : Type 0} (P : A → Type 0) (refused : ℕ → A) (rules : List Rule) (kept : A) → Failing rules → ((n : ℕ) → Fails n → P (refused n)) → P kept → P (firstOr refused rules kept)
-failing-cases P refused [] kept f g h = h
-failing-cases P refused ((true ⇒ n) ∷ rules) kept f g h = g n (f .0)
-failing-cases P refused ((false ⇒ n) ∷ rules) kept f g h = failing-cases P refused rules kept (f .1) g h
-
-general-failing : (k : Core) (c : List ℕ) (d : DataSet) (o : Operation) → Failing (generalRules k c d o)
+general-failing : (c : List ℕ) (came : Came) (o : Operation) → Failing (generalRules c came o)
 unfolding generalRules
-general-failing k c d o = (refl, (refl, (refl, (refl, tt))))
+general-failing c came o = (refl, (refl, (refl, tt)))
 
 create-failing : (k : Core) (c : List ℕ) (sent : Part) → Failing (createRules k c sent)
 unfolding createRules
@@ -133,7 +125,7 @@ delete-planned k (TheFilm i) name = record { rules-failing = tt; is-done = refl;
 delete-planned k (TheBox i j) name = record { rules-failing = tt; is-done = refl; done-succeeds = refl }
 
 also-planned : (rules : List Rule) (p : Plan) → Failing rules → Planned p → Planned (also rules p)
-also-planned rules p f g = record { rules-failing = failing-both rules (p .rules) f (g .rules-failing); is-done = g .is-done; done-succeeds = g .done-succeeds }
+also-planned rules p f g = record { rules-failing = numbers-both Fails rules (p .rules) f (g .rules-failing); is-done = g .is-done; done-succeeds = g .done-succeeds }
 
 planned : (k : Core) (c : List ℕ) (d : DataSet) (o : Operation) → Planned (planOf k c (d .bytes) o)
 unfolding planOf
@@ -153,13 +145,14 @@ planned k c d (Delete r) =
     (delete-planned k (named k (uidAt c (r .instance))) (sentName (uidAt c (r .instance))))
 
 request-statused : (k : Core) (c : List ℕ) (d : DataSet) (r : Request) → Statused (resultOf k c r (decideRequest k c d r))
-unfolding decideRequest reply
+unfolding reply
 request-statused k c d r =
     let p = planned k c d (r .operation) in
-    failing-cases (λ v. Statused (resultOf k c r v)) (failed k c r NoNote) (generalRules k c d (r .operation) ++ planOf k c (d .bytes) (r .operation) .rules) (planOf k c (d .bytes) (r .operation) .verdict)
-    (failing-both (generalRules k c d (r .operation)) _ (general-failing k c d (r .operation)) (p .rules-failing))
+    numbered-cases (λ v. Statused (resultOf k c r v)) k c d r
+    (λ stop _. refl)
+    (λ _. rw (p .is-done) (p .done-succeeds))
+    Fails (general-failing c (d .came) (r .operation)) (p .rules-failing)
     (λ n f. f)
-    (rw (p .is-done) (p .done-succeeds))
 
 command-statused : (k : Core) (c : List ℕ) (d : DataSet) (x : Command) → Statused (decideCommand k c d x)
 unfolding reply

@@ -224,9 +224,9 @@ pub fn put_report(
     command: usize,
     size: usize,
     kind: u16,
-    first: u32,
-    second: u32,
-    third: u32,
+    first: usize,
+    second: usize,
+    third: usize,
 )
     requires { ⌜ 20 ≤ length (now out) ⌝ }
     ensures { λ _. ⌜ now (out .exit) ≡ laid (now (out .entry)) 0 (reportBy status command size kind first second third) ⌝ }

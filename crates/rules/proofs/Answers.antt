@@ -15,7 +15,7 @@ use Rattle.rules.specs.Text.{chars}
 use Rattle.rules.specs.Lists.{from}
 use Rattle.rules.specs.Records.{picture, madeName}
 use Rattle.rules.specs.declared.Note.{Note}
-use Rattle.rules.specs.declared.Note.the-variants.{NoNote, FilmsQueued, PictureAt}
+use Rattle.rules.specs.declared.Note.the-variants.{NoNote, FilmsQueued, PictureAt, StoppedAt}
 use Rattle.rules.specs.Responses.{Reply}
 use Rattle.rules.specs.Calls.{entryBytes}
 use Rattle.rules.specs.Outcomes.{Lent, Feeding, reportBytes, numberOf, inputIn, inputHeld, fedTo, Taking, nothingTaken, took, orUnchanged}
@@ -42,6 +42,8 @@ written =
     gives (reportBytes (replyWith NoNote)) (0x02 ∷ 0xB6 ∷ 98 ∷ 0 ∷ 44 ∷ 1 ∷ 0 ∷ 0 ∷ replicate 12 0)
     ∷ gives (reportBytes (replyWith (FilmsQueued 0x01020304))) (0x02 ∷ 0xB6 ∷ 98 ∷ 0 ∷ 44 ∷ 1 ∷ 1 ∷ 0 ∷ 4 ∷ 3 ∷ 2 ∷ 1 ∷ replicate 8 0)
     ∷ gives (reportBytes (replyWith noted)) (0x02 ∷ 0xB6 ∷ 98 ∷ 0 ∷ 44 ∷ 1 ∷ 2 ∷ 0 ∷ 4 ∷ 3 ∷ 2 ∷ 1 ∷ 8 ∷ 7 ∷ 6 ∷ 5 ∷ 12 ∷ 11 ∷ 10 ∷ 9 ∷ [])
+    -- R-4: or where the reading stopped: refusal, place, depth
+    ∷ gives (reportBytes (replyWith (StoppedAt (record { number = 7; place = 0x01020304; depth = 4 })))) (0x02 ∷ 0xB6 ∷ 98 ∷ 0 ∷ 44 ∷ 1 ∷ 3 ∷ 0 ∷ 7 ∷ 0 ∷ 0 ∷ 0 ∷ 4 ∷ 3 ∷ 2 ∷ 1 ∷ 4 ∷ 0 ∷ 0 ∷ 0 ∷ [])
     -- field by field
     ∷ gives (map (numberAt 2 (reportBytes (replyWith noted))) (0 ∷ 2 ∷ 4 ∷ 6 ∷ []) ++ map (numberAt 4 (reportBytes (replyWith noted))) (8 ∷ 12 ∷ 16 ∷ [])) (0xB602 ∷ 98 ∷ 300 ∷ 2 ∷ 0x01020304 ∷ 0x05060708 ∷ 0x090A0B0C ∷ [])
     -- "36 pictures of 4, ticket and copies of 2, little endian, the UID zero-filled to 64"
@@ -54,7 +56,7 @@ written =
 
 pub written-hold : AllHold written
 unfolding theBook
-written-hold = (refl, (refl, (refl, (refl, (refl, (refl, (refl, (refl, tt))))))))
+written-hold = (refl, (refl, (refl, (refl, (refl, (refl, (refl, (refl, (refl, tt)))))))))
 
 -- The input: phase, bytes of command and of data, the first bytes of the command; and back.
 

@@ -14,7 +14,7 @@ use Rattle.rules.specs.declared.Core.{Core}
 use Rattle.rules.specs.Calls as calls
 use Rattle.rules.specs.Calls.{handed, printing, started}
 use Rattle.rules.specs.declared.Note.{Note}
-use Rattle.rules.specs.declared.Note.the-variants.{NoNote, FilmsQueued, PictureAt}
+use Rattle.rules.specs.declared.Note.the-variants.{NoNote, FilmsQueued, PictureAt, StoppedAt}
 use Rattle.rules.specs.Responses.{Reply}
 use Rattle.rules.specs.Outcomes.{reportBytes}
 
@@ -52,7 +52,8 @@ abbrev pub noteIn : List ℕ → Note
 noteIn report =
     pick (eqb (numberAt 2 report 6) 0) NoNote
     (pick (eqb (numberAt 2 report 6) 1) (FilmsQueued (numberAt 4 report 8))
-    (PictureAt (numberAt 4 report 8) (numberAt 4 report 12) (numberAt 4 report 16)))
+    (pick (eqb (numberAt 2 report 6) 2) (PictureAt (numberAt 4 report 8) (numberAt 4 report 12) (numberAt 4 report 16))
+    (StoppedAt (record { number = numberAt 4 report 8; place = numberAt 4 report 12; depth = numberAt 4 report 16 }))))
 
 abbrev shownBy : List ℕ → Reply → Shown
 shownBy report r = response (numberAt 2 report 0) (r .command) (r .dataSet) (noteIn report)

@@ -16,7 +16,7 @@ use Rattle.rules.specs.Positions.{rowOf, columnOf}
 use Rattle.rules.specs.Records.{noBox, noEntry, filmsOf, theSession, filmsUnder, withFilms}
 use Rattle.rules.specs.Attributes.{listingOf, sessionIn, layoutFrom, layoutIn}
 use Rattle.rules.specs.declared.Note.{Note}
-use Rattle.rules.specs.declared.Note.the-variants.{NoNote, FilmsQueued, PictureAt}
+use Rattle.rules.specs.declared.Note.the-variants.{NoNote, FilmsQueued, PictureAt, StoppedAt}
 use Rattle.rules.specs.Responses.{Reply}
 use Rattle.rules.specs.Effects.{filmAt, sessionDeleted, entryOf}
 use Rattle.rules.specs.Checks.{sessionPrintRules, decide}
@@ -38,6 +38,7 @@ abbrev noteNumbers : Note → List ℕ
 noteNumbers NoNote = 0 ∷ []
 noteNumbers (FilmsQueued n) = 1 ∷ n ∷ []
 noteNumbers (PictureAt n place size) = 2 ∷ n ∷ place ∷ size ∷ []
+noteNumbers (StoppedAt stop) = 3 ∷ stop .number ∷ stop .place ∷ stop .depth ∷ []
 
 abbrev noteOf : Result Core Reply → List ℕ
 noteOf (fails r) = noteNumbers (r .note)
@@ -108,6 +109,8 @@ worked =
     -- R-3: fifteen pixels take 16 bytes, and the note leaves the last one out; 14 and 18 are not allowed, an odd length is not read
     ∷ gives (noteOf (decide filmLive setBox (whole (oddPicture 16)))) (2 ∷ 1 ∷ 124 ∷ 15 ∷ [])
     ∷ gives (status (decide filmLive setBox (whole (oddPicture 16))) ∷ status (decide filmLive setBox (whole (oddPicture 14))) ∷ status (decide filmLive setBox (whole (oddPicture 18))) ∷ status (decide filmLive setBox (whole (oddPicture 15))) ∷ []) (0x0000 ∷ 0x0106 ∷ 0x0106 ∷ 0x0110 ∷ [])
+    -- R-4: check 5 alone notes where the reading stopped; other failures have no note
+    ∷ gives (noteOf (decide filmLive setBox (whole (oddPicture 15))) ++ (noteOf (decide filmLive setBox tooLong) ++ (noteOf (decide filmLive setBox (whole (oddPicture 14))) ++ noteOf (decide filmLive actTwo noData)))) (3 ∷ 2 ∷ 10 ∷ 0 ∷ 0 ∷ 0 ∷ 0 ∷ [])
     -- a print: the queue's entry
     ∷ gives (entryAfter onePicture printFilm) (1 ∷ 0 ∷ 1 ∷ 100 ∷ 0 ∷ 1 ∷ [])
     -- a session's deletion takes its films
@@ -120,4 +123,4 @@ worked =
 
 pub worked-hold : AllHold worked
 unfolding theBook
-worked-hold = (refl, (refl, (refl, (refl, (refl, (refl, (refl, (refl, (refl, (refl, (refl, (refl, (refl, (refl, (refl, (refl, (refl, (refl, (refl, (refl, (refl, (refl, (refl, (refl, (refl, (refl, (refl, tt)))))))))))))))))))))))))))
+worked-hold = (refl, (refl, (refl, (refl, (refl, (refl, (refl, (refl, (refl, (refl, (refl, (refl, (refl, (refl, (refl, (refl, (refl, (refl, (refl, (refl, (refl, (refl, (refl, (refl, (refl, (refl, (refl, (refl, tt))))))))))))))))))))))))))))

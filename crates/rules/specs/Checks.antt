@@ -11,6 +11,8 @@ use Rattle.octets.specs.Octets.{same}
 use Rattle.uids.specs.Uids.{isUid, beginsWith}
 use Rattle.headers.specs.declared.Syntax.{Syntax}
 use Rattle.headers.specs.declared.Part.{Part}
+use Rattle.elements.specs.declared.Read.{Read}
+use Rattle.elements.specs.declared.Read.the-variants.{Past, Refused}
 use Rattle.elements.specs.Reader.{dataSet}
 use Rattle.strike.specs.declared.Came.{Came}
 use Rattle.strike.specs.declared.Came.the-variants.{Absent, Whole, TooLong}
@@ -35,11 +37,11 @@ use Rattle.rules.specs.Lists.{every, any, apart}
 use Rattle.rules.specs.declared.Instance.{Instance}
 use Rattle.rules.specs.declared.Instance.the-variants.{Nobody, TheSession, TheFilm, TheBox}
 use Rattle.rules.specs.Records.{boxCount, boxesOf, filmsOf, rootOf, uidOf, isLive, syntaxIn, named, noName, sentName, instanceOf, filmsUnder, sessionsOf}
-use Rattle.rules.specs.Commands.{size, uidAt, isRead, understood}
+use Rattle.rules.specs.Commands.{size, uidAt, understood}
 use Rattle.rules.specs.declared.Image.{Image}
 use Rattle.rules.specs.Attributes.{Listing, listingOf, attributeRules, sessionStandings, filmCreateStandings, filmSetStandings, boxStandings, imageIn, isFill, pixels}
 use Rattle.rules.specs.declared.Note.{Note}
-use Rattle.rules.specs.declared.Note.the-variants.{NoNote, FilmsQueued, PictureAt}
+use Rattle.rules.specs.declared.Note.the-variants.{NoNote, FilmsQueued, PictureAt, StoppedAt}
 use Rattle.rules.specs.Responses.{Says, Reply, reply, dataSetOf}
 use Rattle.rules.specs.Effects.{ownSerials, nameFrom, tooFewSerials, noPictureLeft, sessionCreated, newFilm, filmSerials, filmCreated, sessionSet, filmAt, filmSet, boxSet, sessionDeleted, filmDeleted, printed, filledBoxes, noneFilled, queueRoom}
 
@@ -97,19 +99,19 @@ isTooLong Absent = false
 isTooLong Whole = false
 isTooLong TooLong = true
 
-abbrev pub isUnreadable : Syntax → Came → List ℕ → Bool
-isUnreadable syntax Absent d = false
-isUnreadable syntax Whole d = not (isRead (dataSet d syntax))
-isUnreadable syntax TooLong d = false
+-- what the reader says of a data set; there is nothing to read where none came, or it was not kept
+abbrev pub readingOf : Syntax → Came → List ℕ → Read
+readingOf syntax Absent d = Past 0
+readingOf syntax Whole d = dataSet d syntax
+readingOf syntax TooLong d = Past 0
 
--- Checks 2 to 5.
+-- Checks 2 to 4.
 
-unfoldable pub generalRules : Core → List ℕ → DataSet → Operation → List Rule
-generalRules k c d o =
+unfoldable pub generalRules : List ℕ → Came → Operation → List Rule
+generalRules c came o =
     (isUnknown (classOf (uidAt c (classPart o))) ⇒ 0x0118)
     ∷ (not (offers (classOf (uidAt c (classPart o))) o) ⇒ 0x0211)
-    ∷ (isTooLong (d .came) ⇒ 0x0213)
-    ∷ (isUnreadable (syntaxIn k) (d .came) (d .bytes) ⇒ 0x0110)
+    ∷ (isTooLong came ⇒ 0x0213)
     ∷ []
 
 -- Check 6.
@@ -334,8 +336,15 @@ failed k c r note status = record {
 abbrev pub decidedBy : Core → List ℕ → Request → Plan → Verdict
 decidedBy k c r plan = firstOr (failed k c r NoNote) (plan .rules) (plan .verdict)
 
+-- Check 5: a data set that is not read fails, and the note says where the reading stopped
+abbrev pub unlessStopped : Core → List ℕ → Request → Read → Verdict → Verdict
+unlessStopped k c r (Past q) v = v
+unlessStopped k c r (Refused stop) v = failed k c r (StoppedAt stop) 0x0110
+
 unfoldable pub decideRequest : Core → List ℕ → DataSet → Request → Verdict
-decideRequest k c d r = decidedBy k c r (also (generalRules k c d (r .operation)) (planOf k c (d .bytes) (r .operation)))
+decideRequest k c d r =
+    firstOr (failed k c r NoNote) (generalRules c (d .came) (r .operation))
+    (unlessStopped k c r (readingOf (syntaxIn k) (d .came) (d .bytes)) (decidedBy k c r (planOf k c (d .bytes) (r .operation))))
 
 -- The response.
 

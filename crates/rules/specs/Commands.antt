@@ -57,7 +57,7 @@ hasUid c tag = isUid (uidAt c (placed (inCommand c tag)))
 
 abbrev pub isRead : Read → Bool
 isRead (Past q) = true
-isRead (Refused n) = false
+isRead (Refused stop) = false
 
 -- "elements all in group 0000"
 unfoldable pub groupZero : List ℕ → Bool

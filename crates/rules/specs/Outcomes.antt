@@ -15,7 +15,7 @@ use Rattle.rules.specs.declared.State.{State}
 use Rattle.rules.specs.Lists.{filledTo}
 use Rattle.rules.specs.Records.{commandHeld}
 use Rattle.rules.specs.declared.Note.{Note}
-use Rattle.rules.specs.declared.Note.the-variants.{NoNote, FilmsQueued, PictureAt}
+use Rattle.rules.specs.declared.Note.the-variants.{NoNote, FilmsQueued, PictureAt, StoppedAt}
 use Rattle.rules.specs.Responses.{Reply}
 use Rattle.rules.specs.Sound.{sound}
 use Rattle.rules.specs.Layout.{recordsSize, unpack, pack}
@@ -57,6 +57,7 @@ abbrev pub noteBytes : Note → List ℕ
 noteBytes NoNote = octets 2 0 ++ replicate 12 0
 noteBytes (FilmsQueued n) = octets 2 1 ++ (octets 4 n ++ replicate 8 0)
 noteBytes (PictureAt n place size) = octets 2 2 ++ (octets 4 n ++ (octets 4 place ++ octets 4 size))
+noteBytes (StoppedAt stop) = octets 2 3 ++ (octets 4 (stop .number) ++ (octets 4 (stop .place) ++ octets 4 (stop .depth)))
 
 unfoldable pub reportBytes : Reply → List ℕ
 reportBytes r = octets 2 (r .status) ++ (octets 2 (length (r .command)) ++ (octets 2 (length (r .dataSet)) ++ noteBytes (r .note)))

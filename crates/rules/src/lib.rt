@@ -1,4 +1,5 @@
 // The book of printing: the types of the records and of requests. Its definitions stand in specs/; it has no code.
+use elements::Stop;
 use headers::Inside;
 use headers::Part;
 
@@ -195,7 +196,8 @@ pub enum Image {
     Fills(Inside),
 }
 
-// "a note: none, how many films were queued, or a picture's number with place and length of its pixels"
+// Rule 4.13, a note: none, how many films were queued, a picture's number with place and length of its pixels, or where the reading
+// of the data set stopped.
 pub enum Note {
     NoNote,
     FilmsQueued(u32),
@@ -204,6 +206,7 @@ pub enum Note {
         place: u32,
         length: u32,
     },
+    StoppedAt(Stop),
 }
 
 // What the data set of an answer holds: nothing, or the boxes of a created film, by the first's serial.

@@ -18,7 +18,7 @@ use Rattle.strike.specs.Messages.{Event, Fate, wasCutOff, failed, succeeded, sa
 use Rattle.strike.proofs.Lies.{DataLies, AnswerLies}
 use Rattle.rules.specs.Commands.{numberIn}
 use Rattle.rules.specs.declared.Note.{Note}
-use Rattle.rules.specs.declared.Note.the-variants.{NoNote, FilmsQueued, PictureAt}
+use Rattle.rules.specs.declared.Note.the-variants.{NoNote, FilmsQueued, PictureAt, StoppedAt}
 use Rattle.rules.specs.Responses.{isFailure, Reply}
 use Rattle.rules.specs.Calls.{handed}
 use Rattle.rules.specs.Outcomes.{numberOf, reportBytes}
@@ -73,6 +73,7 @@ abbrev covered : Note → List ℕ → List ℕ
 covered NoNote d = []
 covered (FilmsQueued n) d = []
 covered (PictureAt n place size) d = part d place (place + size)
+covered (StoppedAt stop) d = []
 
 abbrev coveredBy : Answer Reply (List ℕ) → List ℕ
 coveredBy (refused n) = []
@@ -89,6 +90,7 @@ note-covers : (report message d : List ℕ) (r : Reply) (note : Note) → r .not
     → pick (eqb (numberAt 2 report 6) 2) (part message (numberAt 4 report 12) (numberAt 4 report 12 + numberAt 4 report 16)) [] ≡ covered note d
 note-covers report message d r NoNote e m w lies = rw (m .kind, e)
 note-covers report message d r (FilmsQueued n) e m w lies = rw (m .kind, e)
+note-covers report message d r (StoppedAt stop) e m w lies = rw (m .kind, e)
 note-covers report message d r (PictureAt n place size) e m w lies = rw (m .kind, m .second, m .third, e) (part-front message d place size lies (w .2))
 
 reply-covers : (h : HostCall) (r : Reply) (d : DataSet) (message : List ℕ) → Responds (lentBy h) r d → DataLies d message → pixelsIn (shownOf h (success r d)) message ≡ covered (r .note) (d .bytes)

@@ -16,7 +16,7 @@ use Rattle.strike.specs.declared.Came.the-variants.{Absent, Whole, TooLo
 use Rattle.strike.specs.Service.{DataSet, noData, whole, tooLong, Result, fails, does}
 use Rattle.strike.specs.Service.{Handed, Call, start, opening, feed, close, aside, Check, passes, refuses, Service}
 use Rattle.strike.specs.Machine.{idle, inData}
-use Rattle.strike.specs.Machine.{Answer, refused, done, told, ignored, wait, dropped, failure, success, Records, step, messageAfter}
+use Rattle.strike.specs.Machine.{refused, done, told, ignored, wait, dropped, failure, success, Records, step, messageAfter}
 use Rattle.strike.specs.Messages.{Event, without, callsOf}
 use Rattle.strike.specs.Messages.{succeeded, failed, wasDropped, wasCutOff, unsettled, strikeable, fateOf}
 use Rattle.strike.specs.Messages.{history, answers, after}

@@ -58,10 +58,11 @@ fn after_first(s: &[u8], at: usize, buffer: &[u8], n: usize) -> usize {
     after_bytes(s, at, &buffer[0..n])
 }
 
-fn after_picture(s: &[u8], at: usize, report: &[u8; 20]) -> usize {
-    let number = after_decimal(s, after(s, at, b" picture "), number_at(report, 8, 4));
-    let place = after_decimal(s, after(s, number, b" "), number_at(report, 12, 4));
-    after_decimal(s, after(s, place, b" "), number_at(report, 16, 4))
+// The three numbers of a note.
+fn after_numbers(s: &[u8], at: usize, report: &[u8; 20]) -> usize {
+    let first = after_decimal(s, at, number_at(report, 8, 4));
+    let second = after_decimal(s, after(s, first, b" "), number_at(report, 12, 4));
+    after_decimal(s, after(s, second, b" "), number_at(report, 16, 4))
 }
 
 fn after_note(s: &[u8], at: usize, report: &[u8; 20]) -> usize {
@@ -73,7 +74,10 @@ fn after_note(s: &[u8], at: usize, report: &[u8; 20]) -> usize {
         return after_decimal(s, after(s, at, b" queued "), number_at(report, 8, 4));
     }
     if kind == 2 {
-        return after_picture(s, at, report);
+        return after_numbers(s, after(s, at, b" picture "), report);
+    }
+    if kind == 3 {
+        return after_numbers(s, after(s, at, b" stopped "), report);
     }
     NOWHERE
 }

@@ -205,9 +205,9 @@ fn print_data_set(s: &[u8], syntax: Syntax) {
 
 fn report(s: &[u8], syntax: Syntax) {
     match elements::data_set(s, syntax) {
-        Read::Refused(n) => {
+        Read::Refused(stop) => {
             print(b" refused ");
-            io::print_decimal(STDOUT_FILENO, n as u64);
+            io::print_decimal(STDOUT_FILENO, stop.number as u64);
             print(b"\n");
         }
         Read::Past(p) => {

@@ -102,7 +102,7 @@ module _ (s : List ℕ) (syntax : Syntax) (room stop at floor tag : ℕ) where
   -- a sequence is passed over, where its items are
   pub sequence-past : (held more : List ℕ) → HeaderFits syntax floor tag SQ (length held) → namedVr tag ≡ SQ → 0 < room → length held % 2 ≡ 0
       → Stands s at (headed syntax tag SQ held ++ more) → at + headerSize syntax SQ + length held ≤ stop
-      → itemsFrom (elementAt s syntax (room - 1)) s (span (at + headerSize syntax SQ) (length held)) (at + headerSize syntax SQ) ≡ Past (at + headerSize syntax SQ + length held)
+      → itemsFrom (elementAt s syntax (room - 1)) s (room - 1) (span (at + headerSize syntax SQ) (length held)) (at + headerSize syntax SQ) ≡ Past (at + headerSize syntax SQ + length held)
       → elementAt s syntax room stop at floor ≡ Past (at + headerSize syntax SQ + length held)
   sequence-past held more f q p v e r i =
       element-nest s syntax room stop at floor (λ z. omega arith) (sequence-head s syntax stop at floor tag (length held) f v r (header-stands s syntax at tag SQ held more e) q) ∙ i
@@ -172,7 +172,7 @@ mutual
 
   -- the rest of a sequence's items
   pub items-back : (items : Items) (s : List ℕ) (syntax : Syntax) (room from stop at : ℕ) → FitItems syntax room items → stop ≡ at + length (writtenItems syntax items) → Stands s at (writtenItems syntax items)
-      → itemsFrom (elementAt s syntax room) s (between from stop) at ≡ Past stop
+      → itemsFrom (elementAt s syntax room) s room (between from stop) at ≡ Past stop
   items-back noItems s syntax room from stop at f n e =
       let z : stop ≡ at = omega arith in
       rw z (items-done s syntax room (between from at) at (omega arith) (ended s sequenceEnd from at))

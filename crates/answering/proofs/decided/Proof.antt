@@ -1,21 +1,48 @@
-use Rattle.answering.proofs.General.{uids-in-parts, general-broken, general-kept}
+use Rattle.answering.proofs.General.{uids-in-parts, general-broken, data-read, data-stopped}
 use borrow.Author.Needs.{needs}
 use Rattle.answering.proofs.decided.Statement.{statement}
 use Rattle.answering.proofs.decided.Tie as tie
 
 general-broken-requires : tie.Need-general-broken-requires
-general-broken-requires c κs = uids-in-parts (c .before .before .args .c .now) (c .before .before .args .request .operation) (c .before .before .pre .1)
+general-broken-requires c κs =
+    let o : tie.Start = search in
+    uids-in-parts (o .args .c .now) (o .args .request .operation) (o .pre .1)
 
 returns : tie.Need-returns
 returns c =
     let o : tie.Start = search in
-    general-broken (o .args .k) (o .args .c .now) _ (o .args .request) _ _ (c .before .before .general-broken .ensures) (c .before .if1 .taken) (c .failed .ensures)
+    general-broken (o .args .k) (o .args .c .now) _ _ (o .args .request) _ _ (c .before .before .general-broken .ensures) (c .before .if1 .taken) (c .failed .ensures)
 
 returns-2 : tie.Need-returns-2
 returns-2 c =
     let o : tie.Start = search in
-    general-kept (o .args .k) (o .args .c .now) _ (o .args .request) _ _ (c .before .before .general-broken .ensures) (c .before .if1 .left) (c .planned .ensures)
+    let general : tie.After-general-broken = search in
+    let syntax : tie.After-syntax-of = search in
+    let reading : tie.After-reading = search in
+    let told : tie.After-enum-told = search in
+    data-read (o .args .k) (o .args .c .now) _ _ (o .args .request) _ _ (general .general-broken .ensures) (syntax .before .before .if1 .left) _ (syntax .syntax-of .ensures) _ (reading .reading .ensures) (told .enum-told .given .1) (c .planned .ensures)
+
+returns-3 : tie.Need-returns-3
+returns-3 c =
+    let o : tie.Start = search in
+    let general : tie.After-general-broken = search in
+    let syntax : tie.After-syntax-of = search in
+    let reading : tie.After-reading = search in
+    let told : tie.After-stop = search in
+    data-stopped (o .args .k) (o .args .c .now) _ _ (o .args .request) _ _ (general .general-broken .ensures) (syntax .before .before .if1 .left) _ (syntax .syntax-of .ensures) _ (reading .reading .ensures) (told .stop .given .1) (c .failed2 .ensures)
 
 pub decided-spec : {M : Type 1} → statement M
 decided-spec =
-    tie.close (tie.spec general-broken-requires (λ c κs. search needs) returns (λ c κs. search needs) returns-2)
+    tie.close
+    (tie.spec
+    general-broken-requires
+    (λ c κs. search needs)
+    returns
+    (λ c κs. search needs)
+    (λ c κs. search needs)
+    (λ c. search needs)
+    (λ c κs. search needs)
+    (λ c. search needs)
+    (λ c κs. search needs)
+    returns-2
+    returns-3)

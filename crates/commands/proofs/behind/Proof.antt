@@ -5,7 +5,7 @@ use Rattle.commands.proofs.behind.Statement.{statement}
 use Rattle.commands.proofs.behind.Tie as tie
 
 returns : tie.Need-returns
-returns c = sym (element-fault _ _ _ _ _ _ (sym (c .before .before .before .before .pre .1) ∙ c .before .head .given .1))
+returns c = c .refused .ensures ∙ sym (element-fault _ _ _ _ _ _ (sym (c .before .before .before .before .before .pre .1) ∙ c .before .before .head .given .1))
 
 returns-2 : tie.Need-returns-2
 returns-2 c = sym (element-value _ _ _ _ _ _ (sym (c .before .before .before .before .pre .1) ∙ c .before .head2 .given .1))
@@ -15,6 +15,7 @@ behind-spec =
     tie.close
     (tie.spec
     (λ c. search needs)
+    (λ c κs. search needs)
     (λ c. search needs)
     (λ c. search needs)
     (λ c κs. search needs)

@@ -16,6 +16,7 @@ use Rattle.elements.proofs.+element+item+list.Lts-item as item-lts
 use Rattle.elements.proofs.list.Reads as list
 use Rattle.elements.proofs.list.Kinds as list-kinds
 use Rattle.elements.proofs.+element+item+list.Lts-list as list-lts
+use Rattle.elements.proofs.refused.Reads as refused-reads
 use Rattle.headers.proofs.closing.Reads as closing-reads
 use Rattle.syntaxes.proofs.element_head.Reads as element-head-reads
 use Rattle.headers.proofs.item_head.Reads as item-head-reads
@@ -52,17 +53,17 @@ list-below t = and 1 list-kinds.ps (falls 1 list-kinds.ps _<_ μ-list t) list.Pr
 
 -- what each calls: its callees' readings
 abbrev element-calls : ℕ → element-lts.Claims
-element-calls t = (element-head-reads.Asked, element-head-reads.Learnt, closing-reads.Asked, closing-reads.Learnt, item-below t, item.Post)
+element-calls t = (element-head-reads.Asked, element-head-reads.Learnt, refused-reads.Asked, refused-reads.Learnt, closing-reads.Asked, closing-reads.Learnt, item-below t, item.Post)
 
 abbrev item-calls : ℕ → item-lts.Claims
-item-calls t = (item-head-reads.Asked, item-head-reads.Learnt, list-below t, list.Post)
+item-calls t = (item-head-reads.Asked, item-head-reads.Learnt, refused-reads.Asked, refused-reads.Learnt, list-below t, list.Post)
 
 abbrev list-calls : ℕ → list-lts.Claims
 list-calls t = (closing-reads.Asked, closing-reads.Learnt, element-below t, element.Post, tag-at-reads.Asked, tag-at-reads.Learnt)
 
 abbrev element-Inv-loop : element-lts.InvT-loop
 element-Inv-loop s syntax room end at floor inside p₀ p =
-    (p ≤ inside .stop) × ((inside .stop ≤ length s) × (itemsFrom (elementAt s syntax (room - 1)) s inside (inside .from) ≡ itemsFrom (elementAt s syntax (room - 1)) s inside p))
+    (p ≤ inside .stop) × ((inside .stop ≤ length s) × (itemsFrom (elementAt s syntax (room - 1)) s (room - 1) inside (inside .from) ≡ itemsFrom (elementAt s syntax (room - 1)) s (room - 1) inside p))
 
 abbrev element-μ-loop : element-lts.MeasureT-loop
 element-μ-loop s syntax room end at floor inside p₀ p = inside .stop - p
@@ -73,7 +74,7 @@ Items-loop t = element-lts.At-loop (element-calls t) (element-at t) element.Post
 
 element-returns : (t : ℕ) → element-lts.Need-returns (element-calls t) (element-at t) element.Post element-Inv-loop element-μ-loop
 element-returns t c =
-    sym (element-full _ _ _ _ _ _ (c .if1 .taken) (sym (c .before .before .before .before .element-head .ensures) ∙ c .before .before .inside .given .1))
+    c .refused2 .ensures ∙ sym (element-full _ _ _ _ _ _ (c .before .if1 .taken) (sym (c .before .before .before .before .before .element-head .ensures) ∙ c .before .before .before .inside .given .1))
 
 element-loop-holds : (t : ℕ) → element-lts.Need-loop-holds (element-calls t) (element-at t) element.Post element-Inv-loop element-μ-loop
 element-loop-holds t c =
@@ -100,12 +101,12 @@ element-loop-again t c =
 element-returns-3 : (t : ℕ) → element-lts.Need-returns-3 (element-calls t) (element-at t) element.Post element-Inv-loop element-μ-loop
 element-returns-3 t c =
     let o : Items-loop t = search in
-    let e = sym (c .before .before .before .item .ensures) ∙ c .before .n2 .given .1 in
+    let e = sym (c .before .before .before .item .ensures) ∙ c .before .stop .given .1 in
     sym (element-nest _ _ _ _ _ _ (o .before .if1 .left) (sym (o .before .before .before .before .before .element-head .ensures) ∙ o .before .before .before .inside .given .1) ∙ o .loop .inv .1 .1 ∙ items-refused _ _ _ _ _ (o .loop .inv .0) (sym (c .before .before .before .before .before .before .closing .ensures) ∙ c .before .before .before .before .enum-told .given .1) e)
 
 element-returns-4 : (t : ℕ) → element-lts.Need-returns-4 (element-calls t) (element-at t) element.Post element-Inv-loop element-μ-loop
 element-returns-4 t c =
-    sym (element-fault _ _ _ _ _ _ (sym (c .before .before .before .element-head .ensures) ∙ c .before .n .given .1))
+    c .refused .ensures ∙ sym (element-fault _ _ _ _ _ _ (sym (c .before .before .before .before .element-head .ensures) ∙ c .before .before .n .given .1))
 
 element-returns-5 : (t : ℕ) → element-lts.Need-returns-5 (element-calls t) (element-at t) element.Post element-Inv-loop element-μ-loop
 element-returns-5 t c =
@@ -118,7 +119,7 @@ item-list-requires t c κs =
 
 item-returns : (t : ℕ) → item-lts.Need-returns (item-calls t) (item-at t) item.Post
 item-returns t c =
-    sym (item-fault _ _ _ _ _ (sym (c .before .before .before .item-head .ensures) ∙ c .before .n .given .1))
+    c .refused .ensures ∙ sym (item-fault _ _ _ _ _ (sym (c .before .before .before .before .item-head .ensures) ∙ c .before .before .number .given .1))
 
 item-returns-2 : (t : ℕ) → item-lts.Need-returns-2 (item-calls t) (item-at t) item.Post
 item-returns-2 t c =
@@ -170,7 +171,7 @@ list-loop-again t c =
 list-returns-2 : (t : ℕ) → list-lts.Need-returns-2 (list-calls t) (list-at t) list.Post list-Inv-loop list-μ-loop
 list-returns-2 t c =
     let o : Elements-loop t = search in
-    let e = sym (c .before .before .before .element .ensures) ∙ c .before .n .given .1 in
+    let e = sym (c .before .before .before .element .ensures) ∙ c .before .stop .given .1 in
     sym (o .loop .inv .1 ∙ list-refused _ _ _ _ _ (o .loop .inv .0) _ (sym (c .before .before .before .before .before .before .closing .ensures) ∙ c .before .before .before .before .enum-told .given .1) e)
 
 pub +element+item+list-spec : {M : Type 1} → statement M
@@ -182,8 +183,10 @@ pub +element+item+list-spec : {M : Type 1} → statement M
     element-μ-loop
     (λ c κs. search needs)
     (λ c. search needs)
+    (λ c κs. search needs)
     (λ c. search needs)
     (λ c. search needs)
+    (λ c κs. search needs)
     (element-returns t)
     (element-loop-holds t)
     (λ c κs. search needs)
@@ -205,6 +208,7 @@ pub +element+item+list-spec : {M : Type 1} → statement M
     item.Post
     (λ c κs. search needs)
     (λ c. search needs)
+    (λ c κs. search needs)
     (λ c. search needs)
     (λ c. search needs)
     (item-list-requires t)

@@ -1,4 +1,4 @@
-use Rattle.feeding.proofs.Response.{note-none, note-queued, note-picture}
+use Rattle.feeding.proofs.Response.{note-none, note-queued, note-picture, note-stopped}
 use borrow.Author.Needs.{needs}
 use Rattle.feeding.proofs.put_note.Statement.{statement}
 use Rattle.feeding.proofs.put_note.Tie as tie
@@ -21,6 +21,12 @@ returns-3 c =
     let report : tie.After-put-report3 = search in
     rw (note .note2 .given .1, ← (note-picture _ _ _ _ _ _)) (report .put-report3 .ensures)
 
+returns-4 : tie.Need-returns-4
+returns-4 c =
+    let note : tie.After-note3 = search in
+    let report : tie.After-put-report4 = search in
+    rw (note .note3 .given .1, ← (note-stopped _ _ _ _)) (report .put-report4 .ensures)
+
 pub put-note-spec : {M : Type 1} → statement M
 put-note-spec =
     tie.close
@@ -28,7 +34,14 @@ put-note-spec =
     (λ c. search needs)
     (λ c κs. search needs)
     (λ c. search needs)
+    (λ c. search needs)
     (λ c κs. search needs)
+    (λ c. search needs)
+    (λ c. search needs)
+    (λ c. search needs)
+    (λ c. search needs)
+    (λ c κs. search needs)
+    (λ c. search needs)
     (λ c. search needs)
     (λ c κs. search needs)
     (λ c. search needs)
@@ -36,4 +49,6 @@ put-note-spec =
     (λ c. search needs)
     returns-2
     (λ c. search needs)
-    returns-3)
+    returns-3
+    (λ c. search needs)
+    returns-4)

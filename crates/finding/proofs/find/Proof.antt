@@ -19,7 +19,7 @@ use Rattle.finding.proofs.find.Tie as tie
 find-given : (s : List ℕ) (scope : Scope) (at : ℕ) → at ≤ scope .inside .stop → (floor tag : ℕ) (r : Read) → elementIn s scope (scope .inside .stop) at floor ≡ r → closeAt s itemEnd (scope .inside) at ≡ Not → tagAt s at ≡ tag
     → among s (scope .syntax) (scope .inside .stop) tag (elementsFrom s scope (record { at = at; floor = floor })) ≡ gives r (headAt s (scope .syntax) (scope .inside .stop) at floor)
 find-given s scope at h floor tag (Past q) e k t = find-here s scope at h floor tag k e t
-find-given s scope at h floor tag (Refused n) e k t = find-refused s scope at h floor tag k e
+find-given s scope at h floor tag (Refused stop) e k t = find-refused s scope at h floor tag k e
 
 abbrev Inv-loop : tie.InvT-loop
 Inv-loop s scope tag syntax inside p₀ floor₀ p floor =
