@@ -2,7 +2,8 @@
  *
  *   start ROOTHEX|- SERIAL PICTURE    open CONTEXT SYNTAX LENGTH    feed HEX|-    close    take
  *
- * A line that is no call ends the program with status 2. */
+ * A reply is out before the next line is read, wherever it goes to: programs talk to this one over pipes. A line that is
+ * no call ends the program with status 2. */
 #include <errno.h>
 #include <stdint.h>
 #include <stdio.h>
@@ -214,6 +215,7 @@ int main(int argc, char **argv)
         if (line[length - 1] == '\n')
             line[length - 1] = 0;
         call(line);
+        fflush(stdout);
     }
     free(line);
     free(message.at);
