@@ -8,19 +8,15 @@
 #include <string.h>
 
 #include "../../host/console.h"
-#include "../../host/hex.h"
 #include "../../include/gateway.h"
 #include "../../include/gateway_records.h"
 #include "../walks/noise.h"
 #include "calls.h"
 #include "full.h"
+#include "traced.h"
 
 enum { HEADER = 6, COMMAND_BIT = 1, LAST_BIT = 2, PIECE = 131072, POOL = 16384 };
 
-/* What the host holds, and the seed. */
-static uint8_t records[GATEWAY_RECORDS];
-static uint8_t message[GATEWAY_MESSAGE_MOST];
-static size_t message_length = GATEWAY_MESSAGE_LEAST;
 static struct noise noise = { 1 };
 
 static bool sometimes(uint32_t n)
@@ -287,14 +283,6 @@ static void walk_lengths(const uint8_t *fragment, size_t size)
     give_feed_back(&exact);
 }
 
-/* The host's own call, not on a copy. */
-static uint32_t own_feed(const uint8_t *fragment, size_t size)
-{
-    static uint8_t command[GATEWAY_COMMAND], data[GATEWAY_DATA], report[GATEWAY_REPORT];
-    return gateway_feed(records, sizeof records, message, message_length, fragment, size, command, sizeof command, data,
-                        sizeof data, report, sizeof report);
-}
-
 static void expect(const char *what, uint32_t n, uint32_t due)
 {
     if (n == due)
@@ -398,89 +386,25 @@ static void fill_to_the_brim(size_t room)
 
 /* Traces. */
 
-static unsigned long number(void)
-{
-    char *word = strtok(NULL, " ");
-    return word == NULL ? 0 : strtoul(word, NULL, 10);
-}
-
-static size_t bytes_of(const char *word, uint8_t *bytes, size_t room)
-{
-    if (word == NULL || strcmp(word, "-") == 0)
-        return 0;
-    if (strlen(word) / 2 > room || !hex_bytes(word, bytes)) {
-        fprintf(stderr, "lent: a word of a trace is not hexadecimal, or too long\n");
-        exit(2);
-    }
-    return strlen(word) / 2;
-}
-
-static void trace_start(void)
-{
-    uint8_t root[256];
-    size_t n = bytes_of(strtok(NULL, " "), root, sizeof root);
-    uint32_t serial = (uint32_t)number();
-    gateway_start(records, sizeof records, root, n, serial, (uint32_t)number());
-}
-
-static void trace_open(void)
-{
-    uint32_t context = (uint32_t)number(), syntax = (uint32_t)number();
-    size_t length = number();
-    if (length <= GATEWAY_MESSAGE_MOST &&
-        gateway_open(records, sizeof records, message, length, context, syntax) == GATEWAY_DONE)
-        message_length = length;
-}
+static bool tried[STATES][4];
+static uint32_t hostile_each;
 
 /* Buffers of every length are tried once in a trace for each state and kind of fragment. */
-static void trace_feed(bool tried[STATES][4], uint32_t each)
+static void walk_feed(const uint8_t *fragment, size_t size)
 {
-    static uint8_t fragment[1 << 20];
-    size_t size = bytes_of(strtok(NULL, " "), fragment, sizeof fragment);
     uint8_t state = records[GATEWAY_AT_COLLECTING], control = size > 5 ? fragment[5] % 4 : 0;
-    for (uint32_t i = 0; i < each; i++)
+    for (uint32_t i = 0; i < hostile_each; i++)
         hostile_feed(fragment, size);
     if (!tried[state][control])
         walk_lengths(fragment, size);
     tried[state][control] = true;
-    own_feed(fragment, size);
-}
-
-static void trace_call(char *line, bool tried[STATES][4], uint32_t each)
-{
-    uint8_t entry[GATEWAY_ENTRY];
-    const char *word = strtok(line, " ");
-    if (strcmp(word, "start") == 0)
-        trace_start();
-    else if (strcmp(word, "open") == 0)
-        trace_open();
-    else if (strcmp(word, "feed") == 0)
-        trace_feed(tried, each);
-    else if (strcmp(word, "close") == 0)
-        gateway_close(records, sizeof records);
-    else
-        gateway_take(records, sizeof records, entry, sizeof entry);
 }
 
 static void walk_trace(const char *path, uint32_t each)
 {
-    bool tried[STATES][4] = { { false } };
-    char *line = NULL;
-    size_t room = 0;
-    ssize_t length;
-    FILE *file = fopen(path, "r");
-    if (file == NULL) {
-        perror(path);
-        exit(2);
-    }
-    memset(records, 0, sizeof records);
-    message_length = GATEWAY_MESSAGE_LEAST;
-    while ((length = getline(&line, &room, file)) > 0) {
-        line[strcspn(line, "\n")] = 0;
-        trace_call(line, tried, each);
-    }
-    free(line);
-    fclose(file);
+    memset(tried, 0, sizeof tried);
+    hostile_each = each;
+    make_trace(path, walk_feed);
 }
 
 static void walk_all_records(unsigned long calls)
