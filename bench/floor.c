@@ -356,7 +356,8 @@ static inline bool fits(struct header h, size_t from, size_t stop)
     return h.length % 2 == 0 && h.length <= stop - from;
 }
 
-/* The tags of rule 5.14 that are no sequences: these may not have an undefined length, and others are sequences by it. */
+/* The tags of rule 5.14 that are no sequences. An undefined length is refused in these, and makes any other one a
+ * sequence. */
 static bool is_value(uint32_t tag)
 {
     static const uint32_t tags[] = { 0x00000000, 0x00000002, 0x00000003, 0x00000100, 0x00000110, 0x00000120, 0x00000800,
