@@ -1,4 +1,5 @@
-"""table.py ROWS SVG: prints the rows as a table, and draws their ratios as bars to SVG."""
+"""table.py ROWS SVG: prints the rows as a table, and draws their ratios as bars to SVG. A row that has nothing beside it
+has a time for its aim, and is not drawn."""
 import math
 import sys
 from html import escape
@@ -20,10 +21,15 @@ def shown(seconds):
     return f"{seconds * 1e3:.1f} ms" if seconds >= 1e-3 else f"{seconds * 1e6:.2f} us"
 
 
+def cells(row):
+    what, beside, plain, archive, aim = row
+    if not beside:
+        return what, "", "", shown(archive), "", shown(aim) if aim else ""
+    return what, beside, shown(plain), shown(archive), f"{archive / plain:.2f}", f"{aim:g}" if aim else ""
+
+
 def table(rows):
-    lines = [("What", "Beside", "that", "archive", "ratio", "aim")]
-    for what, beside, plain, archive, aim in rows:
-        lines.append((what, beside, shown(plain), shown(archive), f"{archive / plain:.2f}", f"{aim:g}" if aim else ""))
+    lines = [("What", "Beside", "that", "archive", "ratio", "aim"), *map(cells, rows)]
     widths = [max(len(line[i]) for line in lines) for i in range(6)]
     for line in lines:
         left = "  ".join(text.ljust(width) for text, width in zip(line[:2], widths))
@@ -70,7 +76,7 @@ def main():
     rows = read(sys.argv[1])
     table(rows)
     with open(sys.argv[2], "w", encoding="utf-8") as file:
-        file.write(plot(rows))
+        file.write(plot([row for row in rows if row[1]]))
     print(f"plot: {sys.argv[2]}")
 
 

@@ -51,6 +51,11 @@ void print_row(const char *what, const char *beside, struct medians m, double ai
     fflush(stdout);
 }
 
+void print_alone(const char *what, double seconds, double aim)
+{
+    print_row(what, "", (struct medians){ 0, seconds }, aim);
+}
+
 int rounds_of(int argc, char **argv)
 {
     int rounds = argc > 1 ? atoi(argv[1]) : 0;

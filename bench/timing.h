@@ -19,6 +19,9 @@ struct medians time_sides(struct sides s, int rounds);
 /* A row for table.py: what was timed, beside what, the two medians, and the ratio aimed at, 0 for none. */
 void print_row(const char *what, const char *beside, struct medians m, double aim);
 
+/* The same for what has nothing beside it: seconds, and those aimed at. */
+void print_alone(const char *what, double seconds, double aim);
+
 /* How many rounds the argument asks for: 1 to 99, 7 where it does not say. */
 int rounds_of(int argc, char **argv);
 
