@@ -527,22 +527,19 @@ bool floor_sound(const uint8_t *records)
 
 /* The calls. */
 
-/* The response to a C-ECHO that is done; only the message's number differs. */
-static const uint8_t echoed[] = {
-    0x00, 0x00, 0x00, 0x00, 4,  0, 0, 0, 66,   0,    0, 0,                 /* 66 bytes follow */
-    0x00, 0x00, 0x02, 0x00, 18, 0, 0, 0, '1',  '.',  '2', '.', '8', '4', '0', '.', '1', '0', '0', '0', '8', '.',
-    '1',  '.',  '1',  0,                                                   /* the class */
-    0x00, 0x00, 0x00, 0x01, 2,  0, 0, 0, 0x30, 0x80,                       /* a response to C-ECHO */
-    0x00, 0x00, 0x20, 0x01, 2,  0, 0, 0, 0,    0,                          /* to which message */
-    0x00, 0x00, 0x00, 0x08, 2,  0, 0, 0, 0x01, 0x01,                       /* no data set */
-    0x00, 0x00, 0x00, 0x09, 2,  0, 0, 0, 0x00, 0x00,                       /* done */
-};
-enum { ECHOED_MESSAGE = 56 };
+/* The response to a C-ECHO that is done: tag, length and value of each element. Only the message's number differs. */
+static const char echoed[] = "\0\0\0\0" "\4\0\0\0" "\x42\0\0\0"               /* 66 bytes follow */
+                             "\0\0\2\0" "\x12\0\0\0" VERIFICATION "\0"          /* the class, padded */
+                             "\0\0\0\1" "\2\0\0\0" "\x30\x80"                   /* a response to C-ECHO */
+                             "\0\0\x20\1" "\2\0\0\0" "\0\0"                      /* to which message */
+                             "\0\0\0\x08" "\2\0\0\0" "\1\1"                      /* no data set */
+                             "\0\0\0\x09" "\2\0\0\0" "\0\0";                     /* done */
+enum { ECHOED = sizeof echoed - 1, ECHOED_MESSAGE = 56 };
 
 /* A whole command is understood where it lies, and leaves the records idle, as they were. */
 static uint32_t answer_echo(const uint8_t *bytes, size_t n, uint8_t *command, uint8_t *report)
 {
-    static const uint8_t done[GATEWAY_REPORT] = { [GATEWAY_REPORT_COMMAND] = sizeof echoed };
+    static const uint8_t done[GATEWAY_REPORT] = { [GATEWAY_REPORT_COMMAND] = ECHOED };
     struct command c;
     if (n > COMMAND_MOST || !understand(bytes, n, &c))
         return FLOOR_OTHER;
@@ -550,7 +547,7 @@ static uint32_t answer_echo(const uint8_t *bytes, size_t n, uint8_t *command, ui
     if (u16_at(c.field.at) != C_ECHO || u16_at(c.data_set.at) != NO_DATA_SET ||
         class.length != sizeof VERIFICATION - 1 || memcmp(class.at, VERIFICATION, class.length) != 0)
         return FLOOR_OTHER;
-    memcpy(command, echoed, sizeof echoed);
+    memcpy(command, echoed, ECHOED);
     memcpy(command + ECHOED_MESSAGE, c.message.at, c.message.length);
     memcpy(report, done, sizeof done);
     return GATEWAY_RESPONSE;

@@ -1,5 +1,5 @@
-/* Calls beside their floor, the least work that they can do (floor.h): a C-ECHO on empty and on full records, and a data
- * fragment on full ones. Both answer alike, and write the same. */
+/* Calls beside their floor, the least work that they can do (floor.h): a C-ECHO on empty and on full records, and a
+ * data fragment on full ones. Both answer alike, and write the same. */
 #include <string.h>
 
 #include "../host/console.h"
