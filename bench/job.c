@@ -21,7 +21,7 @@ static void archive_jobs(void *given)
     const struct fragments *f = given;
     for (int i = 0; i < JOBS; i++) {
         served_start();
-        served_open(ROOM);
+        served_open(ROOM, IMPLICIT);
         for (size_t k = 0, from = 0; k < f->count; from = f->ends[k++])
             served_feed(f->bytes.bytes + from, f->ends[k] - from);
         served_take();

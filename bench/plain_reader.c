@@ -50,7 +50,7 @@ static const struct form forms[27] = {
 struct source {
     const uint8_t *bytes;
     bool explicit_vr;
-    struct plain_stop *stop;
+    struct plain_reading *reading;
 };
 
 /* What stands under a header: a value, or a sequence's items, or an item's list. It ends at stop, or before it at a
@@ -140,13 +140,15 @@ static bool closes(const struct source *s, size_t *at, const struct part *part, 
     const uint8_t *p = s->bytes + *at;
     if (!part->loose) return *at == part->stop;
     if (part->stop - *at < 8 || tag_at(p) != delimiter || u32_at(p + 4) != 0) return false;
+    s->reading->headers++;
     *at += 8;
     return true;
 }
 
 /* Says where a header is at fault; room is how many more sequences may stand in one another there. */
 static uint32_t refuse(const struct source *s, size_t at, int room, uint32_t fault) {
-    *s->stop = (struct plain_stop){at, (uint32_t)(DEPTH - room)};
+    s->reading->place = at;
+    s->reading->depth = (uint32_t)(DEPTH - room);
     return fault;
 }
 
@@ -159,6 +161,7 @@ static uint32_t read_items(const struct source *s, size_t *at, const struct part
         struct part item;
         uint32_t fault = item_header(s, *at, sequence->stop, &item);
         if (fault != READ) return refuse(s, *at, room, fault);
+        s->reading->headers++;
         fault = read_list(s, at, &item, room);
         if (fault != READ) return fault;
     }
@@ -175,19 +178,22 @@ static uint32_t read_list(const struct source *s, size_t *at, const struct part 
         if (fault != READ) return refuse(s, *at, room, fault);
         floor = (uint64_t)tag_at(s->bytes + *at) + 1;
         if (!part.sequence) {
+            s->reading->headers++;
             *at = part.stop;
             continue;
         }
         if (room == 0) return refuse(s, *at, room, TOO_DEEP);
+        s->reading->headers++;
         fault = read_items(s, at, &part, room - 1);
         if (fault != READ) return fault;
     }
     return READ;
 }
 
-uint32_t plain_data_set(const uint8_t *bytes, size_t n, uint32_t syntax, struct plain_stop *stop) {
+uint32_t plain_data_set(const uint8_t *bytes, size_t n, uint32_t syntax, struct plain_reading *reading) {
     if (syntax != 1 && syntax != 2) return BAD_SYNTAX;
-    struct source s = {bytes, syntax == 2, stop};
+    struct source s = {bytes, syntax == 2, reading};
+    reading->headers = 0;
     struct part whole = {0, n, false, false};
     size_t at = 0;
     return read_list(&s, &at, &whole, DEPTH);

@@ -31,20 +31,32 @@ void served_start(void)
         stop("start is refused");
 }
 
-void served_open(size_t room)
+void served_open(size_t room, uint32_t syntax)
 {
     message_length = room;
-    if (gateway_open(records, sizeof records, message, room, CONTEXT, GATEWAY_IMPLICIT) != GATEWAY_DONE)
+    if (gateway_open(records, sizeof records, message, room, CONTEXT, syntax) != GATEWAY_DONE)
         stop("open is refused");
+}
+
+static uint32_t feed(const uint8_t *fragment, size_t length)
+{
+    return gateway_feed(records, sizeof records, message, message_length, fragment, length, command, sizeof command,
+                        data, sizeof data, report, sizeof report);
 }
 
 uint32_t served_feed(const uint8_t *fragment, size_t length)
 {
-    uint32_t n = gateway_feed(records, sizeof records, message, message_length, fragment, length, command,
-                              sizeof command, data, sizeof data, report, sizeof report);
+    uint32_t n = feed(fragment, length);
     if (n != GATEWAY_WAIT && (n != GATEWAY_RESPONSE || number_at(report + GATEWAY_REPORT_STATUS, 2) != 0))
         stop("a fragment is refused, or a request fails");
     return n;
+}
+
+uint16_t served_answer(const uint8_t *fragment, size_t length)
+{
+    if (feed(fragment, length) != GATEWAY_RESPONSE)
+        stop("a fragment brings no response");
+    return (uint16_t)number_at(report + GATEWAY_REPORT_STATUS, 2);
 }
 
 void served_take(void)
@@ -63,7 +75,7 @@ void serve_until(struct console *c, enum wish wish, size_t room, struct fragment
 {
     uint8_t fragment[CONSOLE_FRAGMENT];
     served_start();
-    served_open(room);
+    served_open(room, c->syntax);
     while (c->wish != wish || !c->answered) {
         size_t length = console_sends(c, fragment);
         if (kept != NULL)

@@ -18,6 +18,8 @@ def read(path):
 
 def shown(seconds):
     """A time in the unit that suits it."""
+    if seconds < 5e-8:
+        return f"{seconds * 1e9:.1f} ns"
     return f"{seconds * 1e3:.1f} ms" if seconds >= 1e-3 else f"{seconds * 1e6:.2f} us"
 
 

@@ -47,7 +47,7 @@ struct medians time_sides(struct sides s, int rounds)
 
 void print_row(const char *what, const char *beside, struct medians m, double aim)
 {
-    printf("%s\t%s\t%.9f\t%.9f\t%g\n", what, beside, m.plain, m.archive, aim);
+    printf("%s\t%s\t%.12f\t%.12f\t%g\n", what, beside, m.plain, m.archive, aim);
     fflush(stdout);
 }
 

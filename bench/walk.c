@@ -14,16 +14,16 @@ static uint32_t syntax_of(const struct data_set *d)
 static void walk_plain(void *given)
 {
     const struct data_set *d = given;
-    struct plain_stop stop_at;
-    if (plain_data_set(d->bytes, d->n, syntax_of(d), &stop_at) != 0)
+    struct plain_reading reading;
+    if (plain_data_set(d->bytes, d->n, syntax_of(d), &reading) != 0)
         stop("plain C refuses a data set");
 }
 
 static void walk_archive(void *given)
 {
     const struct data_set *d = given;
-    uint8_t stop_at[INSPECT_STOP];
-    if (inspect_data_set(d->bytes, d->n, syntax_of(d), stop_at, sizeof stop_at) != 0)
+    uint8_t reading[INSPECT_READING];
+    if (inspect_data_set(d->bytes, d->n, syntax_of(d), reading, sizeof reading) != 0)
         stop("the reader refuses a data set");
 }
 

@@ -31,9 +31,9 @@ extern "C" {
  * it was packed from. A host is compiled and linked with the same: where GATEWAY_VERSION and gateway_version differ,
  * places in the records may. */
 #define GATEWAY_VERSION_MAJOR 0
-#define GATEWAY_VERSION_MINOR 5
+#define GATEWAY_VERSION_MINOR 6
 #define GATEWAY_VERSION_PATCH 0
-#define GATEWAY_VERSION "0.5.0"
+#define GATEWAY_VERSION "0.6.0"
 extern const char gateway_version[], gateway_commit[];
 
 /* How many bytes each buffer has at least; the records have GATEWAY_RECORDS. More may be lent: bytes past those written

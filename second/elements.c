@@ -211,15 +211,19 @@ static int read_header(const struct part *list, size_t at, int64_t before, struc
     return 0;
 }
 
-static struct refusal read_items(const struct part *sequence, size_t *next);
+/* These call each other, and each adds the headers that it passes to `passed`. */
+static struct refusal read_items(const struct part *sequence, size_t *next, size_t *passed);
+static struct refusal read_elements(const struct part *list, size_t *next, size_t *passed);
 
-/* An element of a list: its header, and the items that a sequence element holds. */
+/* An element of a list: its header, and the items that a sequence element holds. The header is
+   passed before its items are read: it counts too where one of them is refused. */
 static struct refusal read_element(const struct part *list, size_t at, int64_t before,
-                                   struct element *e)
+                                   struct element *e, size_t *passed)
 {
     int number = read_header(list, at, before, e);
     if (number != 0)
         return refuse(number, list, at);
+    (*passed)++;
     if (e->closes || !e->sequence)
         return no_refusal();
     if (e->value.undefined)
@@ -227,7 +231,7 @@ static struct refusal read_element(const struct part *list, size_t at, int64_t b
     else
         COVER("sequence of defined length");
     e->value.depth++;
-    return read_items(&e->value, &e->next);
+    return read_items(&e->value, &e->next, passed);
 }
 
 /* The header between items: an item's, or the closing delimiter. */
@@ -261,23 +265,25 @@ static int read_item_header(const struct part *sequence, size_t at, struct eleme
 }
 
 /* What stands between items: an item with its list, or the closing delimiter. */
-static struct refusal read_item(const struct part *sequence, size_t at, struct element *item)
+static struct refusal read_item(const struct part *sequence, size_t at, struct element *item,
+                                size_t *passed)
 {
     int number = read_item_header(sequence, at, item);
     if (number != 0)
         return refuse(number, sequence, at);
+    (*passed)++;
     if (item->closes)
         return no_refusal();
-    return read_list(&item->value, &item->next);
+    return read_elements(&item->value, &item->next, passed);
 }
 
-static struct refusal read_items(const struct part *sequence, size_t *next)
+static struct refusal read_items(const struct part *sequence, size_t *next, size_t *passed)
 {
     size_t at = sequence->from;
     bool closed = false;
     while (!closed && (sequence->undefined || at < sequence->to)) {
         struct element item;
-        struct refusal refusal = read_item(sequence, at, &item);
+        struct refusal refusal = read_item(sequence, at, &item, passed);
         if (refusal.number != 0)
             return refusal;
         at = item.next;
@@ -287,14 +293,14 @@ static struct refusal read_items(const struct part *sequence, size_t *next)
     return no_refusal();
 }
 
-struct refusal read_list(const struct part *list, size_t *next)
+static struct refusal read_elements(const struct part *list, size_t *next, size_t *passed)
 {
     size_t at = list->from;
     int64_t before = -1;
     bool closed = false;
     while (!closed && (list->undefined || at < list->to)) {
         struct element e;
-        struct refusal refusal = read_element(list, at, before, &e);
+        struct refusal refusal = read_element(list, at, before, &e, passed);
         if (refusal.number != 0)
             return refusal;
         at = e.next;
@@ -305,11 +311,18 @@ struct refusal read_list(const struct part *list, size_t *next)
     return no_refusal();
 }
 
+struct refusal read_list(const struct part *list, size_t *next, size_t *passed)
+{
+    *passed = 0;
+    return read_elements(list, next, passed);
+}
+
 bool find_first(const struct part *list, struct element *found)
 {
+    size_t passed = 0;
     if (!list->undefined && list->from == list->to)
         return false;
-    return read_element(list, list->from, -1, found).number == 0 && !found->closes;
+    return read_element(list, list->from, -1, found, &passed).number == 0 && !found->closes;
 }
 
 bool find(const struct part *list, uint32_t tag, struct element *found)
@@ -327,9 +340,10 @@ size_t count_items(const struct part *sequence, struct part *first)
 {
     size_t at = sequence->from;
     size_t count = 0;
+    size_t passed = 0;
     while (sequence->undefined || at < sequence->to) {
         struct element item;
-        if (read_item(sequence, at, &item).number != 0 || item.closes)
+        if (read_item(sequence, at, &item, &passed).number != 0 || item.closes)
             break;
         if (count++ == 0)
             *first = item.value;

@@ -40,8 +40,10 @@ struct refusal {
     int depth;    /* the sequences that this header lies in */
 };
 
-/* Reads the list to its end, or to the first header at fault. */
-struct refusal read_list(const struct part *list, size_t *next);
+/* Reads the list to its end, or to the first header at fault. Read or refused, `passed` says "how
+   many headers it passed: one for each element, item or delimiter read whole" (R-6); `next`, the
+   place after the list, is set only where nothing is refused. */
+struct refusal read_list(const struct part *list, size_t *next, size_t *passed);
 
 /* In a list that has been read: its first element, and the element of this tag. */
 bool find_first(const struct part *list, struct element *found);

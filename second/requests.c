@@ -106,9 +106,11 @@ bool read_command(const uint8_t *bytes, size_t length, struct request *q)
 {
     struct part list = whole_list(bytes, length, IMPLICIT);
     size_t next;
+    size_t passed;
     uint16_t type;
     memset(q, 0, sizeof *q);
-    CHECK(read_list(&list, &next).number != 0, false, "unreadable: refused by the reader");
+    CHECK(read_list(&list, &next, &passed).number != 0, false,
+          "unreadable: refused by the reader");
     CHECK(!all_in_group_0000(&list), false, "unreadable: element outside group 0000");
     CHECK(!begins_with_group_length(&list), false, "unreadable: group length");
     if (!need_number(&list, TAG(0x0000, 0x0100), &q->field) ||
@@ -199,7 +201,8 @@ static void cover_refusal(const struct refusal *refusal)
 static uint16_t check_5(const struct part *list, struct outcome *o)
 {
     size_t next;
-    struct refusal refusal = read_list(list, &next);
+    size_t passed;
+    struct refusal refusal = read_list(list, &next, &passed);
     if (refusal.number == 0)
         return 0;
     cover_refusal(&refusal);

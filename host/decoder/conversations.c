@@ -43,29 +43,32 @@ static const char *vr_text(uint32_t syntax)
 }
 
 /* What the proved reader says. */
-static struct stopped ask_reader(const struct data_set *set, uint32_t syntax)
+static struct reading ask_reader(const struct data_set *set, uint32_t syntax)
 {
-    uint8_t stop[INSPECT_STOP] = { 0 };
-    uint32_t refusal = inspect_data_set(set->bytes, set->n, syntax, stop, sizeof stop);
-    return (struct stopped){ refusal, (size_t)number_at(stop + INSPECT_STOP_PLACE, 4),
-                             (uint32_t)number_at(stop + INSPECT_STOP_DEPTH, 4) };
+    uint8_t reading[INSPECT_READING] = { 0 };
+    uint32_t refusal = inspect_data_set(set->bytes, set->n, syntax, reading, sizeof reading);
+    struct stopped stopped = { refusal, (size_t)number_at(reading + INSPECT_READING_PLACE, 4),
+                               (uint32_t)number_at(reading + INSPECT_READING_DEPTH, 4) };
+    return (struct reading){ stopped, (size_t)number_at(reading + INSPECT_READING_HEADERS, 4) };
 }
 
 /* A console may send the other syntax than the one that was negotiated. */
 static void show_other_syntax(const struct pieces *set, uint32_t syntax)
 {
     uint32_t other = syntax == GATEWAY_EXPLICIT ? GATEWAY_IMPLICIT : GATEWAY_EXPLICIT;
-    if (ask_reader(&set->set, other).refusal == READ)
+    if (ask_reader(&set->set, other).stopped.refusal == READ)
         printf("(in %s it would be read whole)\n", vr_text(other));
 }
 
-static void show_stop(const struct pieces *set, struct stopped s)
+static void show_reading(const struct pieces *set, struct reading r)
 {
+    struct stopped s = r.stopped;
     if (s.refusal == READ)
-        puts("read whole");
+        puts(reading_words(r).text);
     else
-        printf("refused with %u at %zu, %zXH in the dump, %s: %s (rule 5.%u)\n", (unsigned)s.refusal, s.place,
-               place_in_dump(set, s.place), depth_words(s.depth).text, refusal_text(s.refusal), (unsigned)s.refusal);
+        printf("refused with %u at %zu, %zXH in the dump, %s, after %s: %s (rule 5.%u)\n", (unsigned)s.refusal, s.place,
+               place_in_dump(set, s.place), depth_words(s.depth).text, headers_words(r.headers).text,
+               refusal_text(s.refusal), (unsigned)s.refusal);
 }
 
 /* What a header at fault lies in, and what was expected in its place. */
@@ -82,13 +85,13 @@ enum outcome show_read(const char *what, const struct pieces *set, uint32_t synt
     if (set->set.n > 0)
         puts("    dump       set");
     struct walked walked = show_set(set, syntax == GATEWAY_EXPLICIT);
-    struct stopped stopped = ask_reader(&set->set, syntax);
-    show_stop(set, stopped);
-    if (!same_stop(stopped, stopped_of(&walked))) {
-        printf("what is shown is %s: please report this dump\n", stop_words(stopped_of(&walked)).text);
+    struct reading reading = ask_reader(&set->set, syntax);
+    show_reading(set, reading);
+    if (!same_reading(reading, reading_of(&walked))) {
+        printf("what is shown is %s: please report this dump\n", reading_words(reading_of(&walked)).text);
         return NOT_EXPLAINED;
     }
-    if (stopped.refusal == READ)
+    if (reading.stopped.refusal == READ)
         return FINE;
     show_expected(&walked);
     show_other_syntax(set, syntax);

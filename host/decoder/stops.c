@@ -54,6 +54,20 @@ struct words stop_words(struct stopped s)
     return w;
 }
 
+struct words headers_words(size_t headers)
+{
+    struct words w = { "" };
+    add(&w, "%zu header%s", headers, headers == 1 ? "" : "s");
+    return w;
+}
+
+struct words reading_words(struct reading r)
+{
+    struct words w = stop_words(r.stopped);
+    add(&w, ", %s%s", r.stopped.refusal == READ ? "" : "after ", headers_words(r.headers).text);
+    return w;
+}
+
 struct words refusal_words(const struct walked *w, const uint8_t *bytes)
 {
     struct words all = stop_words(stopped_of(w));

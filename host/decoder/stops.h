@@ -15,6 +15,10 @@ const char *refusal_text(uint32_t refusal);
 struct words stop_words(struct stopped s);
 struct words depth_words(uint32_t depth);
 
+/* The same with the headers that were passed: "read whole, 12 headers", "refused with .., after 7 headers". */
+struct words reading_words(struct reading r);
+struct words headers_words(size_t headers);
+
 /* All of a refusal in a sentence, with its rule. */
 struct words refusal_words(const struct walked *w, const uint8_t *bytes);
 

@@ -20,6 +20,16 @@ bool same_stop(struct stopped a, struct stopped b)
     return a.refusal == b.refusal && a.place == b.place && a.depth == b.depth;
 }
 
+struct reading reading_of(const struct walked *w)
+{
+    return (struct reading){ stopped_of(w), w->headers };
+}
+
+bool same_reading(struct reading a, struct reading b)
+{
+    return same_stop(a.stopped, b.stopped) && a.headers == b.headers;
+}
+
 /* The set that is walked, by whom, the sequences that the walk is in, and how it ended. */
 struct source {
     const uint8_t *bytes;
@@ -117,13 +127,19 @@ static uint32_t read_item(const struct source *s, const struct inside *in, struc
 
 static bool refuse(struct source *s, const struct inside *in, const struct header *h, uint64_t floor, uint32_t refusal)
 {
-    s->walked = (struct walked){ refusal, h->at, in->end - h->at, in->loose, *h, floor, { { 0 } } };
+    s->walked = (struct walked){ refusal, s->walked.headers, h->at, in->end - h->at, in->loose, *h, floor, { { 0 } } };
     memcpy(s->walked.path, s->path, sizeof s->path);
     return false;
 }
 
-/* Whether a list or a sequence ends here; its delimiter is visited and passed. */
-static bool ends(const struct source *s, size_t *at, const struct inside *in, enum part part)
+static void pass(struct source *s, const struct header *h)
+{
+    s->walked.headers++;
+    s->visit(s->with, h);
+}
+
+/* Whether a list or a sequence ends here; its delimiter is passed. */
+static bool ends(struct source *s, size_t *at, const struct inside *in, enum part part)
 {
     const uint8_t *p = s->bytes + *at;
     struct header h = { part, part == ITEM_END ? ITEM_END_TAG : SEQUENCE_END_TAG, 0, NULL, *at, 8, in->depth };
@@ -131,7 +147,7 @@ static bool ends(const struct source *s, size_t *at, const struct inside *in, en
         return *at == in->end;
     if (in->end - *at < 8 || tag_at(p) != h.tag || number_at(p + 4, 4) != 0)
         return false;
-    s->visit(s->with, &h);
+    pass(s, &h);
     *at += 8;
     return true;
 }
@@ -153,7 +169,7 @@ static bool walk_items(struct source *s, size_t *at, const struct inside *in)
         uint32_t refusal = read_item(s, in, &h);
         if (refusal != READ)
             return refuse(s, in, &h, 0, refusal);
-        s->visit(s->with, &h);
+        pass(s, &h);
         level->items++;
         level->item_at = h.at;
         *at += h.size;
@@ -173,7 +189,7 @@ static bool walk_list(struct source *s, size_t *at, const struct inside *in)
         uint32_t refusal = read_element(s, in, floor, &h);
         if (refusal != READ)
             return refuse(s, in, &h, floor, refusal);
-        s->visit(s->with, &h);
+        pass(s, &h);
         floor = (uint64_t)h.tag + 1;
         *at += h.size;
         struct inside items = below_header(in, &h);

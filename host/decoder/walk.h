@@ -39,6 +39,7 @@ struct level {
 /* Where the walk ended: at the end of the set, or at the first header at fault. */
 struct walked {
     uint32_t refusal;
+    size_t headers;            /* how many were passed, the one at fault not among them */
     size_t at, left;           /* of a refusal: the header's place, and the bytes up to the end of what holds it */
     bool loose;                /* whether what holds it has an undefined length */
     struct header header;      /* the one at fault, as far as it was read */
@@ -57,9 +58,18 @@ struct stopped {
 struct stopped stopped_of(const struct walked *w);
 bool same_stop(struct stopped a, struct stopped b);
 
+/* What the proved reader tells of any set: where it stopped, and how many headers it passed. */
+struct reading {
+    struct stopped stopped;
+    size_t headers;
+};
+
+struct reading reading_of(const struct walked *w);
+bool same_reading(struct reading a, struct reading b);
+
 typedef void visit(void *with, const struct header *h);
 
-/* Shows every header that is read to a visitor, in order. */
+/* Shows every header that is passed to a visitor, in order. */
 struct walked walk_set(const uint8_t *bytes, size_t n, bool explicit_vr, visit *visit, void *with);
 
 /* Whether a tag that the rules name may have this VR. */

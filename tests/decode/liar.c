@@ -8,7 +8,8 @@
 uint32_t __real_gateway_feed(uint8_t *records, size_t records_length, uint8_t *message, size_t message_length,
                              const uint8_t *fragment, size_t fragment_length, uint8_t *command, size_t command_length,
                              uint8_t *data, size_t data_length, uint8_t *report, size_t report_length);
-uint32_t __real_inspect_data_set(const uint8_t *bytes, size_t n, uint32_t syntax, uint8_t *stop, size_t stop_length);
+uint32_t __real_inspect_data_set(const uint8_t *bytes, size_t n, uint32_t syntax, uint8_t *reading,
+                                 size_t reading_length);
 
 static int lies(const char *what)
 {
@@ -44,12 +45,14 @@ uint32_t __wrap_gateway_feed(uint8_t *records, size_t records_length, uint8_t *m
     return n == GATEWAY_RESPONSE && lies("returned") ? GATEWAY_DROPPED : n;
 }
 
-uint32_t __wrap_inspect_data_set(const uint8_t *bytes, size_t n, uint32_t syntax, uint8_t *stop, size_t stop_length)
+uint32_t __wrap_inspect_data_set(const uint8_t *bytes, size_t n, uint32_t syntax, uint8_t *reading,
+                                 size_t reading_length)
 {
-    uint32_t refusal = __real_inspect_data_set(bytes, n, syntax, stop, stop_length);
+    uint32_t refusal = __real_inspect_data_set(bytes, n, syntax, reading, reading_length);
     if (refusal != 0) {
-        lie_at(stop + INSPECT_STOP_PLACE, "place");
-        lie_at(stop + INSPECT_STOP_DEPTH, "depth");
+        lie_at(reading + INSPECT_READING_PLACE, "place");
+        lie_at(reading + INSPECT_READING_DEPTH, "depth");
     }
+    lie_at(reading + INSPECT_READING_HEADERS, "headers");
     return lies("number") ? refusal + 1 : refusal;
 }

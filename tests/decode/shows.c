@@ -1,10 +1,11 @@
 /* Holds the walk that shows a set to the proved reader: `shows CALLS` draws so many random data sets, sound and
- * damaged, and ends with 1 where the two stop with different numbers, at different places or at different depths, or
- * where a refusal or a depth did not come up. What is shown goes nowhere. */
+ * damaged, and ends with 1 where the two stop with different numbers, at different places, at different depths or after
+ * different numbers of headers, or where a refusal or a depth did not come up. What is shown goes nowhere. */
 #include <stdio.h>
 #include <stdlib.h>
 
 #include "../../host/decoder/show.h"
+#include "../../host/decoder/stops.h"
 #include "../../include/inspect.h"
 #include "../walks/noise.h"
 
@@ -22,27 +23,27 @@ static void draw(struct noise *r, struct data_set *d)
         damage(r, d);
 }
 
-static struct stopped ask_reader(const struct data_set *d)
+static struct reading ask_reader(const struct data_set *d)
 {
-    uint8_t stop[INSPECT_STOP] = { 0 };
-    uint32_t refusal = inspect_data_set(d->bytes, d->n, d->explicit_vr ? EXPLICIT : IMPLICIT, stop, sizeof stop);
-    return (struct stopped){ refusal, (size_t)number_at(stop + INSPECT_STOP_PLACE, 4),
-                             (uint32_t)number_at(stop + INSPECT_STOP_DEPTH, 4) };
+    uint8_t reading[INSPECT_READING] = { 0 };
+    uint32_t refusal = inspect_data_set(d->bytes, d->n, d->explicit_vr ? EXPLICIT : IMPLICIT, reading, sizeof reading);
+    struct stopped stopped = { refusal, (size_t)number_at(reading + INSPECT_READING_PLACE, 4),
+                               (uint32_t)number_at(reading + INSPECT_READING_DEPTH, 4) };
+    return (struct reading){ stopped, (size_t)number_at(reading + INSPECT_READING_HEADERS, 4) };
 }
 
-static struct stopped show(struct pieces *set, const struct data_set *d)
+static struct reading show(struct pieces *set, const struct data_set *d)
 {
     empty_pieces(set);
     put_piece(set, d->bytes, d->n, 0);
     struct walked walked = show_set(set, d->explicit_vr);
-    return stopped_of(&walked);
+    return reading_of(&walked);
 }
 
-static void say_difference(struct stopped shown, struct stopped proved)
+static void say_difference(struct reading shown, struct reading proved)
 {
-    fprintf(stderr, "decode: what is shown ends with %u at %zu in %u, the reader with %u at %zu in %u\n",
-            (unsigned)shown.refusal, shown.place, (unsigned)shown.depth, (unsigned)proved.refusal, proved.place,
-            (unsigned)proved.depth);
+    fprintf(stderr, "decode: what is shown is %s, by the reader %s\n", reading_words(shown).text,
+            reading_words(proved).text);
 }
 
 /* Whether each came up. */
@@ -69,13 +70,13 @@ int main(int argc, char **argv)
         return 2;
     for (unsigned long i = 0; i < calls; i++) {
         draw(&r, &d);
-        struct stopped proved = ask_reader(&d), shown = show(&set, &d);
-        if (!same_stop(proved, shown) || proved.refusal >= ANSWERS || proved.depth >= DEPTHS) {
+        struct reading proved = ask_reader(&d), shown = show(&set, &d);
+        if (!same_reading(proved, shown) || proved.stopped.refusal >= ANSWERS || proved.stopped.depth >= DEPTHS) {
             say_difference(shown, proved);
             return 1;
         }
-        numbers[proved.refusal]++;
-        depths[proved.depth]++;
+        numbers[proved.stopped.refusal]++;
+        depths[proved.stopped.depth]++;
     }
     bool all = say_counts("numbers", numbers, ANSWERS) && say_counts("depths", depths, DEPTHS);
     free_data_set(&d);

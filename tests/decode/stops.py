@@ -1,5 +1,5 @@
-"""Data sets that are refused, and what decode must say of each: number, place, depth, the sequences around it and what was
-expected. Each stands in 0 to 4 sequences, of defined and of undefined length, in both syntaxes."""
+"""Data sets that are refused, and what decode must say of each: number, place, depth, headers passed, the sequences around it
+and what was expected. Each stands in 0 to 4 sequences, of defined and of undefined length, in both syntaxes."""
 from typing import NamedTuple
 
 from wire import EXPLICIT, IMPLICIT, ITEM, ITEM_END, SEQUENCE_END, UNDEFINED, header, tag_bytes, u32
@@ -86,6 +86,7 @@ class Stop(NamedTuple):
     number: int
     place: int
     depth: int
+    headers: int
     path: str
     expected: str
 
@@ -94,17 +95,21 @@ class Stop(NamedTuple):
             return "in the set's own list"
         return "in 1 sequence" if self.depth == 1 else f"in {self.depth} sequences within one another"
 
+    def headers_words(self):
+        return f"after {self.headers} header" + ("" if self.headers == 1 else "s")
+
 
 def stops(depth, loose, syntax):
     level = 8 + len(header(SEQUENCE, "SQ", 0, syntax))
     at, path = depth * level, [f"item 1 of {NAME} at {i * level}" for i in range(depth)]
     for before, fault, number, expected in in_list(depth, loose, syntax):
         data = nested(before + fault, depth, loose, syntax)
-        yield Stop(syntax, data, number, at + len(before), depth, ", ".join(path), expected)
+        yield Stop(syntax, data, number, at + len(before), depth, 2 * depth + (before != b""), ", ".join(path), expected)
     for before, fault, items, number, expected in in_sequence(at, loose, syntax) if depth < MOST else ():
         data = nested(sequence(before + fault, loose, syntax), depth, loose, syntax)
         last = f"{NAME} at {at}, behind {items} item" + ("" if items == 1 else "s")
-        yield Stop(syntax, data, number, at + level - 8 + len(before), depth + 1, ", ".join([*path, last]), expected)
+        headers = 2 * depth + 1 + items * (3 if loose else 2)
+        yield Stop(syntax, data, number, at + level - 8 + len(before), depth + 1, headers, ", ".join([*path, last]), expected)
 
 
 def missing(syntax):
@@ -112,10 +117,10 @@ def missing(syntax):
     first, pixels = len(header(SEQUENCE, "SQ", 0, syntax)), header(PIXELS, "OW", 0, syntax)
     copies = header(COPIES, "IS", 0, syntax)
     open_item = sequence(item(copies, True, ended=False), False, syntax)
-    yield Stop(syntax, open_item + pixels, 1, len(open_item), 1, f"item 1 of {NAME} at 0",
+    yield Stop(syntax, open_item + pixels, 1, len(open_item), 1, 3, f"item 1 of {NAME} at 0",
                f"the delimiter (FFFE,E00D) of the item at {first}")
     closed = item(sequence(item(copies, False), True, syntax), False)
-    yield Stop(syntax, sequence(closed + item(copies, False), False, syntax) + pixels, 1, first + len(closed), 2,
+    yield Stop(syntax, sequence(closed + item(copies, False), False, syntax) + pixels, 1, first + len(closed), 2, 5,
                f"item 1 of {NAME} at 0, {NAME} at {first + 8}, behind 1 item",
                f"the delimiter (FFFE,E0DD) of the sequence at {first + 8}")
 
@@ -124,7 +129,7 @@ def third_item(syntax):
     """In the third item of a sequence that has no name."""
     copies, odd = header(COPIES, "IS", 0, syntax), header(COPIES, "IS", 1, syntax)
     before = header(0x00091006, "SQ", UNDEFINED, syntax) + 2 * item(copies, True) + mark(ITEM, UNDEFINED)
-    yield Stop(syntax, before + odd, 2, len(before), 1, "item 3 of (0009,1006) at 0", "an even length")
+    yield Stop(syntax, before + odd, 2, len(before), 1, 8, "item 3 of (0009,1006) at 0", "an even length")
 
 
 def all_stops():

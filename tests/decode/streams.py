@@ -155,7 +155,7 @@ CASES = [
     ("a command without its data set", request(N_CREATE, SESSION, 1), [], 0, [
         "gateway: waits: a data set must follow (rule 4.9)\n"]),
     ("a bare data set", NEW_SESSION, [], 0, ["a data set: it begins with an element\n", "explicit VR, guessed: a VR stands behind",
-                                             "(2100,0160) SH 10  Owner ID  \"RADIOLOGY \"\n", "read whole\n"]),
+                                             "(2100,0160) SH 10  Owner ID  \"RADIOLOGY \"\n", "read whole, 4 headers\n"]),
     ("a printer's N-GET", fragment(1, 3, PRINTER), [], 1, [
         "gateway: 0211H, check 1: Command Field 0110H, N-GET-RQ is none of the five operations (rule 6.1)"]),
     ("a response alone", fragment(1, 3, response(N_SET, BOX, 3, "1.9.7.102")), [], 0, ["not fed: it is no request (rule 6.14)\n"]),

@@ -9,7 +9,7 @@
 
 int main(void)
 {
-    static uint8_t records[GATEWAY_RECORDS], stop[INSPECT_STOP];
+    static uint8_t records[GATEWAY_RECORDS], reading[INSPECT_READING];
     const uint8_t root[] = { '1', '.', '9' };
     char numbers[32];
     snprintf(numbers, sizeof numbers, "%d.%d.%d", GATEWAY_VERSION_MAJOR, GATEWAY_VERSION_MINOR, GATEWAY_VERSION_PATCH);
@@ -17,7 +17,7 @@ int main(void)
         return 1;
     if (gateway_start(records, sizeof records, root, sizeof root, 1, 1) != GATEWAY_DONE)
         return 1;
-    if (inspect_data_set(records, 0, GATEWAY_IMPLICIT, stop, sizeof stop) != 0)
+    if (inspect_data_set(records, 0, GATEWAY_IMPLICIT, reading, sizeof reading) != 0)
         return 1;
     printf("%s %s\n", gateway_version, gateway_commit);
     return 0;

@@ -1,15 +1,18 @@
-/* Holds the archive's walk to the plain one, by number, place and depth: on the vectors, on long and wide data sets,
-   and on noise. It is run with a small stack. The arguments are the vectors' folder and how many random calls to make;
-   standard input has a line for each vector, its name, its syntax and what it is answered. */
+/* Holds the archive's walk to the one in plain C and to the second program's, by number, place, depth and headers
+   passed: on the vectors, on long and wide data sets, and on noise. It is run with a small stack. The arguments are the
+   vectors' folder and how many random calls to make; standard input has a line for each vector, its name, its syntax
+   and what it is answered. */
 #include <stdio.h>
 #include <stdlib.h>
 #include <string.h>
 
 #include "../../include/inspect.h"
 #include "../../bench/plain_reader.h"
+#include "../../host/decoder/walk.h"
 #include "noise.h"
+#include "second_reader.h"
 
-enum { VECTORS = 1000, VECTOR_ROOM = 4096, NOISE_ROOM = 1 << 20, ANSWERS = 9, DEPTHS = 5, MANY = 100000 };
+enum { VECTORS = 1000, VECTOR_ROOM = 4096, NOISE_ROOM = 1 << 20, ANSWERS = 9, DEPTHS = LEVELS + 1, MANY = 100000 };
 
 /* What stands where no reader wrote. */
 #define UNTOUCHED 0xA5A5A5A5u
@@ -24,35 +27,68 @@ static void show(const struct data_set *d) {
     fprintf(stderr, "\n");
 }
 
+typedef uint32_t reader(const uint8_t *bytes, size_t n, uint32_t syntax, struct plain_reading *reading);
+
 struct answer {
     uint32_t number;
-    size_t place;
-    uint32_t depth;
+    struct plain_reading reading;
 };
 
-static struct answer ask_archive(const struct data_set *d, uint32_t syntax) {
-    uint8_t stop[INSPECT_STOP];
-    memset(stop, UNTOUCHED & 0xFF, sizeof stop);
-    uint32_t number = inspect_data_set(d->bytes, d->n, syntax, stop, sizeof stop);
-    return (struct answer){number, number_at(stop + INSPECT_STOP_PLACE, 4),
-                           (uint32_t)number_at(stop + INSPECT_STOP_DEPTH, 4)};
+static uint32_t archive_data_set(const uint8_t *bytes, size_t n, uint32_t syntax, struct plain_reading *reading) {
+    uint8_t lent[INSPECT_READING];
+    memset(lent, UNTOUCHED & 0xFF, sizeof lent);
+    uint32_t number = inspect_data_set(bytes, n, syntax, lent, sizeof lent);
+    reading->place = number_at(lent + INSPECT_READING_PLACE, 4);
+    reading->depth = (uint32_t)number_at(lent + INSPECT_READING_DEPTH, 4);
+    reading->headers = number_at(lent + INSPECT_READING_HEADERS, 4);
+    return number;
 }
 
-static struct answer ask_plain(const struct data_set *d, uint32_t syntax) {
-    struct plain_stop stop = {UNTOUCHED, UNTOUCHED};
-    uint32_t number = plain_data_set(d->bytes, d->n, syntax, &stop);
-    return (struct answer){number, stop.place, stop.depth};
+static struct answer ask(reader *reader, const struct data_set *d, uint32_t syntax) {
+    struct answer a = {0, {UNTOUCHED, UNTOUCHED, UNTOUCHED}};
+    a.number = reader(d->bytes, d->n, syntax, &a.reading);
+    return a;
 }
 
-/* What both readers answer; ends the program where they differ. */
-static struct answer answer(const struct data_set *d, uint32_t syntax) {
-    struct answer archive = ask_archive(d, syntax), plain = ask_plain(d, syntax);
-    if (archive.number == plain.number && archive.place == plain.place && archive.depth == plain.depth) return archive;
-    fprintf(stderr, "walks: syntax %u: the archive answers %u at %zu in %u, plain C %u at %zu in %u, on %zu bytes:\n",
-            (unsigned)syntax, (unsigned)archive.number, archive.place, (unsigned)archive.depth, (unsigned)plain.number,
-            plain.place, (unsigned)plain.depth, d->n);
+static void say_answer(const char *whose, const struct answer *a) {
+    fprintf(stderr, "walks: %s answers %u at %zu in %u sequences after %zu headers\n", whose, (unsigned)a->number,
+            a->reading.place, (unsigned)a->reading.depth, a->reading.headers);
+}
+
+static bool same_answer(const struct answer *a, const struct answer *b) {
+    return a->number == b->number && a->reading.place == b->reading.place && a->reading.depth == b->reading.depth &&
+           a->reading.headers == b->reading.headers;
+}
+
+/* Ends the program where another reader answers otherwise than the archive. */
+static void compare(const struct data_set *d, uint32_t syntax, const struct answer *archive, reader *reader,
+                    const char *whose) {
+    struct answer other = ask(reader, d, syntax);
+    if (same_answer(archive, &other)) return;
+    fprintf(stderr, "walks: two readers differ in syntax %u on %zu bytes:\n", (unsigned)syntax, d->n);
     show(d);
+    say_answer("the archive", archive);
+    say_answer(whose, &other);
     exit(1);
+}
+
+/* Each header that is passed has 8 bytes or more, and stands before the one at fault. */
+static void check_bound(const struct data_set *d, const struct answer *archive) {
+    size_t end = archive->number == 0 ? d->n : archive->reading.place;
+    if (end <= d->n && archive->reading.headers <= end / 8) return;
+    fprintf(stderr, "walks: the number of headers is above its bound on %zu bytes:\n", d->n);
+    show(d);
+    say_answer("the archive", archive);
+    exit(1);
+}
+
+/* What all readers answer. */
+static struct answer answer(const struct data_set *d, uint32_t syntax) {
+    struct answer archive = ask(archive_data_set, d, syntax);
+    compare(d, syntax, &archive, plain_data_set, "plain C");
+    compare(d, syntax, &archive, second_data_set, "the second program");
+    if (archive.number < 8) check_bound(d, &archive);
+    return archive;
 }
 
 static uint32_t own_syntax(const struct data_set *d) { return d->explicit_vr ? EXPLICIT : IMPLICIT; }
@@ -65,11 +101,21 @@ static struct answer expect(const char *what, const struct data_set *d, uint32_t
     exit(1);
 }
 
+static void expect_read(const char *what, const struct data_set *d, size_t headers) {
+    struct answer got = expect(what, d, 0);
+    if (got.reading.headers == headers) return;
+    fprintf(stderr, "walks: %s, %s: read with %zu headers, expected %zu\n", what, syntaxes[own_syntax(d)],
+            got.reading.headers, headers);
+    exit(1);
+}
+
+/* In implicit VR the headers that are passed take all bytes before the one at fault. */
 static void expect_refusal(const char *what, const struct data_set *d, uint32_t expected, uint32_t depth) {
     struct answer got = expect(what, d, expected);
-    if (got.depth == depth) return;
-    fprintf(stderr, "walks: %s, %s: refused in %u sequences, expected in %u\n", what, syntaxes[own_syntax(d)],
-            (unsigned)got.depth, (unsigned)depth);
+    if (got.reading.depth == depth && (d->explicit_vr || 8 * got.reading.headers == got.reading.place)) return;
+    fprintf(stderr, "walks: %s, %s: expected in %u sequences, in implicit VR after a header for every 8 bytes\n", what,
+            syntaxes[own_syntax(d)], (unsigned)depth);
+    say_answer("the archive", &got);
     exit(1);
 }
 
@@ -109,21 +155,26 @@ static void check_syntaxes(void) {
         }
 }
 
-/* A buffer that is too short for the stop is answered 9 and left as it is, whatever the rest is. */
-static void check_short_stops(void) {
-    uint8_t stop[INSPECT_STOP] = {0}, before[INSPECT_STOP] = {0};
-    for (size_t length = 0; length < sizeof stop; length++) {
-        uint32_t number = inspect_data_set((const uint8_t *)"cut", 3, (uint32_t)length % 4, stop, length);
-        if (number == 9 && memcmp(stop, before, sizeof stop) == 0) continue;
-        fprintf(stderr, "walks: a stop of %zu bytes is answered %u\n", length, (unsigned)number);
+/* A buffer that is too short for the reading is answered 9 and left as it is, whatever the rest is. */
+static void check_short_buffers(void) {
+    uint8_t lent[INSPECT_READING] = {0}, before[INSPECT_READING] = {0};
+    for (size_t length = 0; length < sizeof lent; length++) {
+        uint32_t number = inspect_data_set((const uint8_t *)"cut", 3, (uint32_t)length % 4, lent, length);
+        if (number == 9 && memcmp(lent, before, sizeof lent) == 0) continue;
+        fprintf(stderr, "walks: a buffer of %zu bytes is answered %u\n", length, (unsigned)number);
         exit(1);
     }
 }
 
 static void check_long_list(uint32_t syntax) {
     struct data_set d = long_list(syntax, WHOLE / 8, 0);
-    expect("16 MiB of empty elements", &d, 0);
+    expect_read("16 MiB of empty elements", &d, d.n / 8);
     free_data_set(&d);
+}
+
+/* All of a nest is headers of 8 bytes, but that a sequence's has 12 in explicit VR. */
+static size_t headers_of_nest(const struct data_set *d, size_t sequences) {
+    return (d->n - (d->explicit_vr ? 4 * sequences : 0)) / 8;
 }
 
 /* Nests with many items on one level; cut short, refused; and one sequence too deep, refused in the last item. */
@@ -132,7 +183,7 @@ static void check_nests(uint32_t syntax, bool loose) {
         size_t items[LEVELS + 1] = {1, 1, 1, 1, 1};
         items[level] = MANY;
         struct data_set d = nest(syntax, 2 * WHOLE, items, LEVELS, loose);
-        expect("a wide nest", &d, 0);
+        expect_read("a wide nest", &d, headers_of_nest(&d, (size_t)(level + 1 + MANY * (LEVELS - 1 - level))));
         d.n--;
         expect_refusal("a wide nest, cut short", &d, 1, loose ? 1 : 0);
         free_data_set(&d);
@@ -169,13 +220,29 @@ static void draw(struct noise *r, struct data_set *d) {
     for (uint32_t n = below(r, 4); n > 0; n--) damage(r, d);
 }
 
+/* How many sequences stand in one another, in a data set that is read: those that the decoder's walk passes stand at
+   depths 0, 2, 4 and 6. */
+static void note_nesting(void *with, const struct header *h) {
+    int *nesting = with;
+    if (h->part == ELEMENT && h->form->kind == SEQUENCE && *nesting <= h->depth / 2) *nesting = h->depth / 2 + 1;
+}
+
+static int nesting_of(const struct data_set *d, uint32_t syntax) {
+    int nesting = 0;
+    walk_set(d->bytes, d->n, syntax == EXPLICIT, note_nesting, &nesting);
+    return nesting;
+}
+
+/* How many data sets got each answer; how many were refused in so many sequences, and read with so many in one
+   another. */
 struct counts {
-    unsigned long answers[ANSWERS], depths[DEPTHS];
+    unsigned long answers[ANSWERS], refused[DEPTHS], read[DEPTHS];
 };
 
-static void print_numbers(const char *what, const unsigned long numbers[], int n) {
-    printf("%s", what);
+static void print_numbers(uint32_t syntax, const char *what, const unsigned long numbers[], int n) {
+    printf("walks: noise, %s, %s:", syntaxes[syntax], what);
     for (int i = 0; i < n; i++) printf(" %d: %lu", i, numbers[i]);
+    printf("\n");
 }
 
 /* Every answer must have come up, 4 in explicit VR alone. */
@@ -187,25 +254,25 @@ static void check_answers(const unsigned long answers[], uint32_t syntax) {
     }
 }
 
-static void check_depths(const unsigned long depths[], uint32_t syntax) {
+static void check_depths(const char *what, const unsigned long depths[], uint32_t syntax) {
     for (int i = 0; i < DEPTHS; i++) {
         if (depths[i] != 0) continue;
-        fprintf(stderr, "walks: no refusal in %d sequences in %s VR\n", i, syntaxes[syntax]);
+        fprintf(stderr, "walks: no data set %s %d sequences in %s VR\n", what, i, syntaxes[syntax]);
         exit(1);
     }
 }
 
 static void check_counts(const struct counts *counts, uint32_t syntax) {
-    printf("walks: noise, %s:", syntaxes[syntax]);
-    print_numbers("", counts->answers, ANSWERS - 1);
-    print_numbers("; refused in so many sequences:", counts->depths, DEPTHS);
-    printf("\n");
+    print_numbers(syntax, "answered", counts->answers, ANSWERS - 1);
+    print_numbers(syntax, "refused in so many sequences", counts->refused, DEPTHS);
+    print_numbers(syntax, "read with so many sequences in one another", counts->read, DEPTHS);
     check_answers(counts->answers, syntax);
-    check_depths(counts->depths, syntax);
+    check_depths("is refused in", counts->refused, syntax);
+    check_depths("is read with", counts->read, syntax);
 }
 
 static void check_noise(unsigned long calls) {
-    struct counts counts[3] = {{{0}, {0}}};
+    struct counts counts[3] = {{{0}, {0}, {0}}};
     struct noise r = {20240229};
     struct data_set d = new_data_set(NOISE_ROOM, IMPLICIT);
     for (unsigned long i = 0; i < calls; i++) {
@@ -213,7 +280,10 @@ static void check_noise(unsigned long calls) {
         uint32_t syntax = below(&r, 16) == 0 ? 3 - own_syntax(&d) : own_syntax(&d);
         struct answer a = answer(&d, syntax);
         counts[syntax].answers[a.number]++;
-        if (a.number != 0) counts[syntax].depths[a.depth]++;
+        if (a.number == 0)
+            counts[syntax].read[nesting_of(&d, syntax)]++;
+        else
+            counts[syntax].refused[a.reading.depth]++;
     }
     check_counts(&counts[IMPLICIT], IMPLICIT);
     check_counts(&counts[EXPLICIT], EXPLICIT);
@@ -224,7 +294,7 @@ int main(int argc, char **argv) {
     if (argc != 3) return 2;
     check_vectors(argv[1]);
     check_syntaxes();
-    check_short_stops();
+    check_short_buffers();
     check_walks();
     check_noise(strtoul(argv[2], NULL, 10));
     return 0;

@@ -139,7 +139,10 @@ pub fn reading(syntax: Syntax, came: Came, d: &[u8]) -> Read
 {
     match came {
         Came::Absent => Read::Past(0),
-        Came::Whole => elements::data_set(d, syntax),
+        Came::Whole => {
+            let reading = elements::data_set(d, syntax);
+            reading.read
+        }
         Came::TooLong => Read::Past(0),
     }
 }

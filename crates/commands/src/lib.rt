@@ -112,9 +112,15 @@ fn behind(c: &[u8], at: usize, floor: usize, head: Head) -> Read
     ensures { λ r. ⌜ r ≡ elementAt (now (c .entry)) Implicit 4 (length (now (c .entry))) at floor ⌝ }
 {
     match head {
-        Head::Fault(n) => elements::refused(n, at, NESTED),
+        Head::Fault(n) => {
+            let reading = elements::refused(n, at, NESTED);
+            reading.read
+        }
         Head::Value(part) => Read::Past(part.stop),
-        Head::Nest(_) => elements::element(c, Syntax::Implicit, NESTED, c.len(), at, floor),
+        Head::Nest(_) => {
+            let reading = elements::element(c, Syntax::Implicit, NESTED, c.len(), at, floor);
+            reading.read
+        }
     }
 }
 

@@ -113,7 +113,7 @@ step-before place-of p at end Not k′ (Past q) r′ on on′ e e′ same h c i 
       λ y. rw (c (omega arith) (omega arith)) (onward-to place-of p r′ on′ e′ (g .1 (omega arith))),
     )
 step-before place-of p at end Not k′ (Refused stop) r′ on on′ e e′ same h c i far g =
-    λ y. let b = far .1 (omega arith) in rw (c (omega arith) (omega arith)) (onward-to place-of p r′ on′ e′ (g y))
+    λ y. let b = far .2 (omega arith) in rw (c (omega arith) (omega arith)) (onward-to place-of p r′ on′ e′ (g y))
 
 -- Headers.
 

@@ -19,10 +19,10 @@ use Rattle.elements.specs.Reader.{itemEnd, sequenceEnd, Elem, behind, or
 use Rattle.elements.proofs.Within.{NextIn}
 use Rattle.elements.proofs.Grammar.{place, ElemIn, element-in, list-step-in, item-step-in}
 
--- read to a place, or refused there or later
+-- read to a place, or refused there or later, with a number
 abbrev pub ReadsTo : ℕ → Read → Type 0
 ReadsTo place (Past q) = place ≤ q
-ReadsTo place (Refused stop) = place ≤ stop .place
+ReadsTo place (Refused stop) = (place ≤ stop .place) × (1 ≤ stop .number)
 
 abbrev pub StepsTo : {S : Type 0} → (S → ℕ) → ℕ → Next S → Type 0
 StepsTo place-of p (again y) = p ≤ place-of y
@@ -31,19 +31,19 @@ StepsTo place-of p (done r) = ReadsTo p r
 -- a part is refused where it begins, or ends behind its header
 abbrev pub Passes : ℕ → Read → Type 0
 Passes at (Past q) = at + 8 ≤ q
-Passes at (Refused stop) = (at ≤ stop .place) × (at < stop .place → at + 8 ≤ stop .place)
+Passes at (Refused stop) = (at ≤ stop .place) × (1 ≤ stop .number) × (at < stop .place → at + 8 ≤ stop .place)
 
 pub nearer : (low low′ : ℕ) (r : Read) → low ≤ low′ → ReadsTo low′ r → ReadsTo low r
 nearer low low′ (Past q) h g = omega arith
-nearer low low′ (Refused stop) h g = omega arith
+nearer low low′ (Refused stop) h g = (omega arith, g .1)
 
 pub passes-to : (at : ℕ) (r : Read) → Passes at r → ReadsTo at r
 passes-to at (Past q) g = omega arith
-passes-to at (Refused stop) g = g .0
+passes-to at (Refused stop) g = (g .0, g .1)
 
 to-passes : (at low : ℕ) (r : Read) → at + 8 ≤ low → ReadsTo low r → Passes at r
 to-passes at low (Past q) h g = omega arith
-to-passes at low (Refused stop) h g = (omega arith, λ l. omega arith)
+to-passes at low (Refused stop) h g = (omega arith, g .1, λ l. omega arith)
 
 pub follow-to : {S : Type 0} (place-of : S → ℕ) (low end p : ℕ) (rest : S → Read) (n : Next S) → NextIn place-of low end n → ((y : S) → low < place-of y → place-of y ≤ end → ReadsTo (place-of y) (rest y)) → StepsTo place-of p n → ReadsTo p (follow rest n)
 follow-to place-of low end p rest (again y) h f g = nearer p (place-of y) (rest y) g (f y (h .0) (h .1))
@@ -57,14 +57,14 @@ walk-to place-of end step good far (suc fuel) x h l =
     (λ y m g. walk-to place-of end step good far fuel y g (omega arith)) (far x h)
 
 behind-to : (held : Inside → Read) (room at end : ℕ) (d : Head) → HeadIn (at + 8) end d → ((inside : Inside) → at + 8 ≤ inside .from → inside .from ≤ inside .stop → Passes at (held inside)) → Passes at (behind held room at d)
-behind-to held room at end (Fault n) h f = (omega arith, λ l. omega arith)
+behind-to held room at end (Fault n) h f = (omega arith, h .0, λ l. omega arith)
 behind-to held room at end (Value part) h f = omega arith
 behind-to held room at end (Nest inside) h f = f inside (h .0) (h .1 .0)
 
 step-to : {S : Type 0} (place-of : S → ℕ) (at end : ℕ) (k : Close) (r : Read) (on : ℕ → S) → ((q : ℕ) → place-of (on q) ≡ q) → CloseIn at end k → Passes at r → StepsTo place-of at (orElse k (onward r on))
 step-to place-of at end (Here q) r on e g h = g .0
 step-to place-of at end Not (Past q) on e g h = omega (arith, e q)
-step-to place-of at end Not (Refused stop) on e g h = h .0
+step-to place-of at end Not (Refused stop) on e g h = (h .0, h .1)
 
 -- a reader of elements
 unfoldable pub ElemTo : Elem → Type 0
@@ -100,7 +100,7 @@ module _ (element : Elem) (good : ElemIn element) (far : ElemTo element) (s : Li
 pub element-to : (s : List ℕ) (syntax : Syntax) (room : ℕ) → ElemTo (elementAt s syntax room)
 unfolding elementAt ElemTo
 element-to s syntax zero end at floor h =
-    behind-to _ zero at end (headAt s syntax end at floor) (head-in s syntax end at floor h) (λ inside l g. (omega arith, λ m. omega arith))
+    behind-to _ zero at end (headAt s syntax end at floor) (head-in s syntax end at floor h) (λ inside l g. (omega arith, omega arith, λ m. omega arith))
 element-to s syntax (suc room) end at floor h =
     behind-to _ (suc room) at end (headAt s syntax end at floor) (head-in s syntax end at floor h)
     (λ inside l g. to-passes at (inside .from) (itemsFrom (elementAt s syntax room) s room inside (inside .from)) l

@@ -28,7 +28,7 @@ widen a b c d (Refused stop) h k g = (g .0, omega arith, g .2)
 
 -- what stands behind a header
 behind-in : (held : Inside → Read) (room at low end : ℕ) (d : Head) → at ≤ end → ((inside : Inside) → low ≤ inside .from → inside .from ≤ inside .stop → ReadIn (inside .from) (inside .stop) (held inside)) → HeadIn low end d → ReadIn low end (behind held room at d)
-behind-in held room at low end (Fault n) h f g = (g, h, omega arith)
+behind-in held room at low end (Fault n) h f g = (g .1, h, omega arith)
 behind-in held room at low end (Value part) h f g = (omega arith, g .1 .1)
 behind-in held room at low end (Nest inside) h f g = widen low (inside .from) (inside .stop) end (held inside) (g .0) (g .1 .1) (f inside (g .0) (g .1 .0))
 

@@ -6,3 +6,5 @@ pub mod Laws
 pub mod Stops
 pub mod Beyond
 pub mod Before
+pub mod Passed
+pub mod Ceiling

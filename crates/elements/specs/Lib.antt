@@ -1,3 +1,4 @@
 pub mod Walk
 pub mod Reader
+pub mod Passed
 pub mod Find

@@ -178,7 +178,7 @@ fn put_note(report: &mut [u8], status: u16, command: usize, size: usize, note: N
             command,
             size,
             3,
-            stop.number as usize,
+            stop.number,
             stop.place,
             stop.depth,
         ),

@@ -30,10 +30,14 @@ fn given(s: &[u8], syntax: Syntax, room: usize, end: usize, at: usize, floor: us
     match element_head(s, syntax, end, at, floor) {
         Head::Fault(_) => Found::Missing,
         Head::Value(part) => Found::Value(part),
-        Head::Nest(inside) => match element(s, syntax, room, end, at, floor) {
-            Read::Past(_) => Found::Sequence(inside),
-            Read::Refused(_) => Found::Missing,
-        },
+        Head::Nest(inside) => {
+            let reading = element(s, syntax, room, end, at, floor);
+            let read = reading.read;
+            match read {
+                Read::Past(_) => Found::Sequence(inside),
+                Read::Refused(_) => Found::Missing,
+            }
+        }
     }
 }
 
@@ -61,7 +65,9 @@ pub fn find(s: &[u8], scope: Scope, tag: usize) -> Found
         if t == tag {
             return given(s, syntax, scope.room, inside.stop, p, floor);
         }
-        match element(s, syntax, scope.room, inside.stop, p, floor) {
+        let reading = element(s, syntax, scope.room, inside.stop, p, floor);
+        let read = reading.read;
+        match read {
             Read::Past(q) => {
                 floor = t + 1;
                 p = q;
@@ -97,7 +103,9 @@ fn count_items(s: &[u8], scope: Scope) -> usize
         if let Close::Here(_) = close {
             return count;
         }
-        match item(s, syntax, scope.room, inside.stop, p) {
+        let reading = item(s, syntax, scope.room, inside.stop, p);
+        let read = reading.read;
+        match read {
             Read::Past(q) => {
                 count += 1;
                 p = q;

@@ -1,12 +1,13 @@
 -- What a header holds, and where a list closes, lies between its place and the enclosing end.
 -- Assumes nothing.
 use mathlib.Core.Path.{_≡_, refl, ap}
-use Prim.Native.Nat.{ℕ, _+_, _-_, _≤_}
+use Prim.Native.Nat.{ℕ, _+_, _-_, _*_, _≤_}
+use mathlib.Core.Bool.{Bool}
 use mathlib.Core.List.{List}
 use native.Mathlib.Omega.{arith}
 use lib.Dec.{ltb, eqb}
 use borrow.Author.Tests.{ltb-false, eq-eqb}
-use Rattle.choice.specs.Pick.{not}
+use Rattle.choice.specs.Pick.{pick, not}
 use Rattle.choice.proofs.Picks.{pick-cases, number-cases, both-second, both-first}
 use Rattle.octets.specs.Octets.{numberAt}
 use Rattle.headers.specs.declared.Syntax.{Syntax}
@@ -32,7 +33,7 @@ abbrev pub mostRefusal : ℕ
 mostRefusal = 7
 
 abbrev pub HeadIn : ℕ → ℕ → Head → Type 0
-HeadIn low end (Fault n) = n ≤ mostRefusal
+HeadIn low end (Fault n) = (1 ≤ n) × (n ≤ mostRefusal)
 HeadIn low end (Value part) = Fits low (part .from) (part .stop) end
 HeadIn low end (Nest inside) = Fits low (inside .from) (inside .stop) end
 
@@ -47,6 +48,21 @@ close-in s mark inside at h =
     (λ _. tt)))
     (λ _. pick-cases (CloseIn at (inside .stop)) (ltb at (inside .stop)) _ _ (λ _. tt) (λ _. (omega arith, h)))
 
+-- a list or a sequence of undefined length ends behind its delimiter
+abbrev pub Delimited : ℕ → Bool → Close → Type 0
+Delimited at loose (Here q) = at + 8 * pick loose 1 0 ≤ q
+Delimited at loose Not = Unit {0}
+
+pub close-behind : (s : List ℕ) (mark : ℕ) (inside : Inside) (at : ℕ) → Delimited at (inside .loose) (closeAt s mark inside at)
+unfolding closeAt
+close-behind s mark inside at =
+    pick-cases (Delimited at (inside .loose)) (inside .loose) _ _
+    (λ z. pick-cases (Delimited at (inside .loose)) (ltb (inside .stop - at) 8) _ _ (λ _. tt)
+    (λ _. pick-cases (Delimited at (inside .loose)) (eqb (tagAt s at) mark) _ _
+    (λ _. pick-cases (Delimited at (inside .loose)) (eqb (numberAt 4 s (at + 4)) 0) _ _ (λ _. rw z (omega arith)) (λ _. tt))
+    (λ _. tt)))
+    (λ z. pick-cases (Delimited at (inside .loose)) (ltb at (inside .stop)) _ _ (λ _. tt) (λ _. rw z (omega arith)))
+
 pub size-least : (s : List ℕ) (syntax : Syntax) (at : ℕ) → 8 ≤ sizeAt s syntax at
 unfolding sizeAt
 size-least s syntax at = pick-cases (λ (n : ℕ). 8 ≤ n) (longAt s syntax at) 12 8 (λ _. omega arith) (λ _. omega arith)
@@ -60,7 +76,7 @@ mark-size s Implicit at e = refl
 length-in : (low from end vr length : ℕ) → low ≤ from → from ≤ end → HeadIn low end (lengthHead from end vr length)
 unfolding lengthHead
 length-in low from end vr length l h =
-    number-cases (HeadIn low end) (λ n. n ≤ mostRefusal) Fault (lengthRules from end vr length) (content from end vr length) (omega arith) (λ n g. g)
+    number-cases (HeadIn low end) (λ n. (1 ≤ n) × (n ≤ mostRefusal)) Fault (lengthRules from end vr length) (content from end vr length) (omega arith) (λ n g. g)
     (λ k. pick-cases (HeadIn low end) (eqb vr SQ) _ _
     (λ q. pick-cases (λ (i : Inside). Fits low (i .from) (i .stop) end) (undefined length) _ _
     (λ u. (l, (h, omega arith)))
@@ -72,7 +88,7 @@ length-in low from end vr length l h =
 pub head-in : (s : List ℕ) (syntax : Syntax) (end at floor : ℕ) → at ≤ end → HeadIn (at + 8) end (headAt s syntax end at floor)
 unfolding headAt
 head-in s syntax end at floor h =
-    number-cases (HeadIn (at + 8) end) (λ n. n ≤ mostRefusal) Fault (elementRules s syntax end at floor) (lengthHead (at + sizeAt s syntax at) end (vrAt s syntax at) (lengthAt s syntax at)) (omega arith) (λ n g. g)
+    number-cases (HeadIn (at + 8) end) (λ n. (1 ≤ n) × (n ≤ mostRefusal)) Fault (elementRules s syntax end at floor) (lengthHead (at + sizeAt s syntax at) end (vrAt s syntax at) (lengthAt s syntax at)) (omega arith) (λ n g. g)
     (λ k. let r : sizeAt s syntax at ≤ end - at = ltb-false _ _ (k .0) in
     let l = size-least s syntax at in
     length-in (at + 8) (at + sizeAt s syntax at) end (vrAt s syntax at) (lengthAt s syntax at) (omega arith) (omega arith))
@@ -80,5 +96,5 @@ head-in s syntax end at floor h =
 pub item-head-in : (s : List ℕ) (end at : ℕ) → at ≤ end → HeadIn (at + 8) end (itemHeadAt s end at)
 unfolding itemHeadAt
 item-head-in s end at h =
-    number-cases (HeadIn (at + 8) end) (λ n. n ≤ mostRefusal) Fault (itemRules s end at) (lengthHead (at + 8) end SQ (numberAt 4 s (at + 4))) (omega arith) (λ n g. g)
+    number-cases (HeadIn (at + 8) end) (λ n. (1 ≤ n) × (n ≤ mostRefusal)) Fault (itemRules s end at) (lengthHead (at + 8) end SQ (numberAt 4 s (at + 4))) (omega arith) (λ n g. g)
     (λ k. let r : 8 ≤ end - at = ltb-false _ _ (k .0) in length-in (at + 8) (at + 8) end SQ (numberAt 4 s (at + 4)) (omega arith) (omega arith))

@@ -36,7 +36,7 @@ pub struct Scope {
 
 // What a header says: the refusal that it earns, a value, or a sequence or an item that holds more.
 pub enum Head {
-    Fault(u8),
+    Fault(usize),
     Value(Part),
     Nest(Inside),
 }

@@ -4,3 +4,4 @@ mod Pictures
 mod Places
 mod Collecting
 mod Stops
+mod Passed

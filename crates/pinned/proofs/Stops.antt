@@ -23,13 +23,13 @@ abbrev stops : Syntax → List (List ℕ) → List (List ℕ)
 stops syntax sets = map (λ s. stop (dataSet s syntax)) sets
 
 -- so many sequences of undefined length within one another, an item open in each
-abbrev within : ℕ → List ℕ → List ℕ
+abbrev pub within : ℕ → List ℕ → List ℕ
 within n s = joined (replicate n (hex "09000010fffffffffeff00e0ffffffff")) ++ s
 
-abbrev withinExplicit : ℕ → List ℕ → List ℕ
+abbrev pub withinExplicit : ℕ → List ℕ → List ℕ
 withinExplicit n s = joined (replicate n (hex "0900001053510000fffffffffeff00e0ffffffff")) ++ s
 
-abbrev atEach : (ℕ → List ℕ → List ℕ) → String → List (List ℕ)
+abbrev pub atEach : (ℕ → List ℕ → List ℕ) → String → List (List ℕ)
 atEach nested text = map (λ n. nested n (hex text)) (from 0 5)
 
 -- the same refusal at each depth, the place so many bytes further from depth to depth

@@ -49,6 +49,7 @@ pub mod NextCalls
 -- What a take and a feed write into lent buffers is read back.
 pub mod EntryBack
 pub mod Notes
+pub mod Noted
 pub mod ReportBack
 pub mod LentBack
 -- Strike-out, a run of it, and the fakes that it admits.

@@ -53,7 +53,7 @@ abbrev pub NoteWithin : ℕ → Note → Type 0
 NoteWithin bytes NoNote = Unit {0}
 NoteWithin bytes (FilmsQueued n) = (1 ≤ n) × (n ≤ mostFilms)
 NoteWithin bytes (PictureAt n place size) = (1 ≤ n) × (n < noneLeft) × (place + size ≤ bytes)
-NoteWithin bytes (StoppedAt stop) = (stop .number ≤ mostRefusal) × (stop .place ≤ bytes) × (stop .depth ≤ mostNested)
+NoteWithin bytes (StoppedAt stop) = (1 ≤ stop .number) × (stop .number ≤ mostRefusal) × (stop .place ≤ bytes) × (stop .depth ≤ mostNested)
 
 abbrev Short : ℕ → Type 0
 Short status = status < 65536

@@ -204,7 +204,9 @@ fn print_data_set(s: &[u8], syntax: Syntax) {
 }
 
 fn report(s: &[u8], syntax: Syntax) {
-    match elements::data_set(s, syntax) {
+    let reading = elements::data_set(s, syntax);
+    let read = reading.read;
+    match read {
         Read::Refused(stop) => {
             print(b" refused ");
             io::print_decimal(STDOUT_FILENO, stop.number as u64);

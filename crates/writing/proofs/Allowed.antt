@@ -6,12 +6,12 @@ use mathlib.Core.Bool.{Bool, true, false}
 use mathlib.Core.List.{List, [], _∷_}
 use native.Mathlib.Omega.{arith}
 use lib.Dec.{ltb, eqb}
-use borrow.Author.Tests.{ltb-true, eqb-true, ne-eqb}
+use borrow.Author.Tests.{ltb-true, eqb-true, lt-ltb, ne-eqb}
 use Rattle.choice.specs.declared.Row.{Row}
 use Rattle.choice.specs.Pick.{pick, both, not}
 use Rattle.choice.specs.Table.{lookup}
 use Rattle.choice.proofs.Picks.{pick-cases, both-true, not-true, clash}
-use Rattle.tags.specs.Table.{SQ, forms, formOf, namedVr, implicitVr, differs, undefined}
+use Rattle.tags.specs.Table.{SQ, named, forms, formOf, namedVr, implicitVr, differs, undefined}
 use Rattle.headers.specs.declared.Syntax.{Syntax}
 use Rattle.headers.specs.declared.Syntax.the-variants.{Implicit, Explicit}
 use Rattle.headers.specs.Header.{isExplicit}
@@ -100,3 +100,17 @@ pub sequence-vr : (syntax : Syntax) (tag size : ℕ) → namedVr tag ≡ SQ → 
 unfolding implicitVr
 sequence-vr Explicit tag size e = refl
 sequence-vr Implicit tag size e = rw e
+
+-- no tag above Pixel Data is named
+unnamed : (tag : ℕ) → 0x7FE0_0010 < tag → eqb (namedVr tag) 0 ≡ true
+unfolding namedVr below
+unnamed tag h = by (eqb (namedVr tag) 0) refl
+  where
+    by : (t : Bool) → eqb (namedVr tag) 0 ≡ t → eqb (namedVr tag) 0 ≡ true
+    by true e = e
+    by false e = let b = key-below 0x7FE0_0011 tag named refl e in absurd (omega arith)
+
+-- such a tag may have any known VR
+pub allowed-above : (tag vr : ℕ) → 0x7FE0_0010 < tag → tag < 0xFFFE_0000 → eqb (formOf vr) 0 ≡ false → allowed tag vr ≡ true
+unfolding allowed differs
+allowed-above tag vr h l k = rw (lt-ltb tag 4294967296 (omega arith), ne-eqb (tag / 65536) 0xFFFE (λ e. omega arith), k, unnamed tag h)

@@ -7,4 +7,7 @@ pub mod ListBack
 pub mod FindBack
 pub mod ItemsBack
 pub mod RoundTrip
+pub mod Counted
+pub mod Reached
+pub mod Loose
 mod Examples

@@ -191,7 +191,7 @@ pub reads-back : (s : List ℕ) (syntax : Syntax) (room at : ℕ) (elements : El
 unfolding listAt
 reads-back s syntax room at elements f e = list-back elements s syntax room at (at + length (written syntax elements)) at 0 f refl e
 
-stands-whole : (s : List ℕ) → Stands s 0 s
+pub stands-whole : (s : List ℕ) → Stands s 0 s
 stands-whole s = let z : 0 + length s - 0 ≡ length s = omega arith in rw z (take-length s)
 
 -- What was written is a data set, or a command set, that the reader takes whole.

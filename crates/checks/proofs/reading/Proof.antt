@@ -3,7 +3,7 @@ use Rattle.checks.proofs.reading.Statement.{statement}
 use Rattle.checks.proofs.reading.Tie as tie
 
 returns-2 : tie.Need-returns-2
-returns-2 c = rw (c .before .enum-told2 .given .1) (c .data-set .ensures)
+returns-2 c = rw (c .before .enum-told2 .given .1) (c .data-set .ensures .0)
 
 pub reading-spec : {M : Type 1} → statement M
 reading-spec =

@@ -5,7 +5,7 @@ use Rattle.commands.proofs.behind.Statement.{statement}
 use Rattle.commands.proofs.behind.Tie as tie
 
 returns : tie.Need-returns
-returns c = c .refused .ensures ∙ sym (element-fault _ _ _ _ _ _ (sym (c .before .before .before .before .before .pre .1) ∙ c .before .before .head .given .1))
+returns c = c .refused .ensures .0 ∙ sym (element-fault _ _ _ _ _ _ (sym (c .before .before .before .before .before .pre .1) ∙ c .before .before .head .given .1))
 
 returns-2 : tie.Need-returns-2
 returns-2 c = sym (element-value _ _ _ _ _ _ (sym (c .before .before .before .before .pre .1) ∙ c .before .head2 .given .1))

@@ -32,21 +32,21 @@ add-count : tie.Need-add-count Inv-loop μ-loop
 add-count c =
     let at-loop : tie.At-loop Inv-loop μ-loop = search in
     let o = at-loop .loop in
-    let b = item-past _ _ _ (o .inv .0) _ _ (sym (c .before .before .before .item .ensures) ∙ c .before .q .given .1) in
+    let b = item-past _ _ _ (o .inv .0) _ _ (sym (c .before .before .before .item .ensures .0) ∙ c .before .read .given .1) in
     omega arith
 
 loop-less : tie.Need-loop-less Inv-loop μ-loop
 loop-less c =
     let at-loop : tie.At-loop Inv-loop μ-loop = search in
     let o = at-loop .loop in
-    let b = item-past _ _ _ (o .inv .0) _ _ (sym (c .before .before .before .item .ensures) ∙ c .before .q .given .1) in
+    let b = item-past _ _ _ (o .inv .0) _ _ (sym (c .before .before .before .item .ensures .0) ∙ c .before .read .given .1) in
     omega arith
 
 loop-again : tie.Need-loop-again Inv-loop μ-loop
 loop-again c =
     let at-loop : tie.At-loop Inv-loop μ-loop = search in
     let o = at-loop .loop in
-    let e = sym (c .before .before .before .item .ensures) ∙ c .before .q .given .1 in
+    let e = sym (c .before .before .before .item .ensures .0) ∙ c .before .read .given .1 in
     let b = item-past _ _ _ (o .inv .0) _ _ e in
     let l = ap length (items-of-more _ _ _ (o .inv .0) (sym (c .before .before .before .before .before .before .closing .ensures) ∙ c .before .before .before .before .enum-told2 .given .1) e) in
     (b .1, omega arith, omega arith)
@@ -54,7 +54,7 @@ loop-again c =
 returns-2 : tie.Need-returns-2 Inv-loop μ-loop
 returns-2 c =
     let o = c .before .before .before .before .before .before .loop in
-    none-left (o .inv .2) (items-of-refused _ _ _ (o .inv .0) (sym (c .before .before .before .before .before .closing .ensures) ∙ c .before .before .before .enum-told2 .given .1) (sym (c .before .before .item .ensures) ∙ c .enum-told3 .given .1))
+    none-left (o .inv .2) (items-of-refused _ _ _ (o .inv .0) (sym (c .before .before .before .before .before .closing .ensures) ∙ c .before .before .before .enum-told2 .given .1) (sym (c .before .before .item .ensures .0) ∙ c .enum-told3 .given .1))
 
 pub count-items-spec : {M : Type 1} → statement M
 count-items-spec =

@@ -57,14 +57,14 @@ returns-4 c =
 loop-less : tie.Need-loop-less Inv-loop μ-loop
 loop-less c =
     let o : tie.At-loop Inv-loop μ-loop = search in
-    let b = element-past _ _ _ _ _ (o .loop .inv .0) _ (sym (c .before .before .before .element .ensures) ∙ c .before .q .given .1) in
+    let b = element-past _ _ _ _ _ (o .loop .inv .0) _ (sym (c .before .before .before .element .ensures .0) ∙ c .before .read .given .1) in
     omega arith
 
 loop-again : tie.Need-loop-again Inv-loop μ-loop
 loop-again c =
     let t = c .before .before .before .before .before .before in
     let o = t .before .before .before .before .before .before in
-    let e = sym (c .before .before .before .element .ensures) ∙ c .before .q .given .1 in
+    let e = sym (c .before .before .before .element .ensures .0) ∙ c .before .read .given .1 in
     let d = t .tag-at .ensures .0 in
     (element-past _ _ _ _ _ (o .loop .inv .0) _ e .1, rw d (o .loop .inv .1 ∙ find-more _ _ _ (o .loop .inv .0) _ _ (sym (t .before .before .before .before .before .closing .ensures) ∙ t .before .before .before .enum-told2 .given .1) e (λ x. c .before .before .before .before .if3 .left (d ∙ x))))
 
@@ -72,7 +72,7 @@ returns-5 : tie.Need-returns-5 Inv-loop μ-loop
 returns-5 c =
     let k : tie.After-enum-told2 Inv-loop μ-loop = search in
     let o = k .before .before .before in
-    sym (o .loop .inv .1 ∙ find-refused _ _ _ (o .loop .inv .0) _ _ (sym (k .before .before .closing .ensures) ∙ k .enum-told2 .given .1) (sym (c .before .before .element .ensures) ∙ c .enum-told3 .given .1))
+    sym (o .loop .inv .1 ∙ find-refused _ _ _ (o .loop .inv .0) _ _ (sym (k .before .before .closing .ensures) ∙ k .enum-told2 .given .1) (sym (c .before .before .element .ensures .0) ∙ c .enum-told3 .given .1))
 
 pub find-spec : {M : Type 1} → statement M
 find-spec =

@@ -17,10 +17,10 @@ returns-2 c =
 returns-3 : tie.Need-returns-3
 returns-3 c =
     let h = sym (c .before .before .before .before .before .before .element-head .ensures) ∙ c .before .before .before .before .inside .given .1 in
-    rw (sym (c .before .before .element .ensures) ∙ c .enum-told2 .given .1, h)
+    rw (sym (c .before .before .element .ensures .0) ∙ c .enum-told2 .given .1, h)
 
 returns-4 : tie.Need-returns-4
-returns-4 c = rw (sym (c .before .before .element .ensures) ∙ c .enum-told3 .given .1)
+returns-4 c = rw (sym (c .before .before .element .ensures .0) ∙ c .enum-told3 .given .1)
 
 pub given-spec : {M : Type 1} → statement M
 given-spec =
