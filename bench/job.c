@@ -40,7 +40,7 @@ static void compare(size_t piece, int rounds)
     m.plain /= JOBS;
     m.archive /= JOBS;
     snprintf(what, sizeof what, "small job, %zu fragments", f.count);
-    print_row(what, "the second program", m, 1);
+    print_row(what, "the second program", m, 1.5);
     free_data_set(&f.bytes);
     free_console(&console);
 }

@@ -1,5 +1,5 @@
 /* The feeds that take longest on a message buffer of 16 MiB, beside one walk of the same data set: an N-SET of a box
- * whose item begins with as much as fits of what is passed over, so that each look-up in the item passes all of it.
+ * whose item begins with as much as fits of what is passed over, so that each walk over the item passes all of it.
  * Then the time of a header in both; and a text that is all spaces but for a letter, beside a copy of its bytes. */
 #include <stdio.h>
 #include <string.h>
@@ -12,9 +12,9 @@
 /* Behind what is passed over stand fewer bytes than AROUND. */
 enum { HEADER = 6, CONTEXT = 1, AROUND = 256, LABEL_HEADER = 8, PROCESSING_FAILURE = 0x0110, REFUSED = 3 };
 
-/* How often such a feed passes all of it: check 5; the sequence is found and its items are counted, before check 8 and
- * once more after it; 14 look-ups in the item for check 8, and 6 for the place of the pixels. */
-enum { PASSES = 1 + 2 * 2 + 14 + 6 };
+/* How often such a feed passes all of it: check 5; the attributes of the box are gathered, for which the sequence is
+ * read through; its items are counted; and the attributes of its item are gathered. */
+enum { PASSES = 4 };
 
 /* A request: its command and its data set, each in one fragment, and what it is answered. */
 struct request {
@@ -146,7 +146,7 @@ static void compare_box(const char *what, uint32_t syntax, void (*fill)(struct d
     finish_request(&r, IMAGE_BOX, console.boxes[0]);
     struct medians m = time_sides((struct sides){ walk, feed, &r }, rounds);
     snprintf(row, sizeof row, "worst feed, %s", what);
-    print_row(row, "one walk of it", m, 0);
+    print_row(row, "one walk of it", m, 3);
     m.plain /= r.headers;
     m.archive /= (double)r.headers * (refused ? 1 : PASSES);
     snprintf(row, sizeof row, "a header, %s", what);

@@ -32,8 +32,8 @@ extern "C" {
  * places in the records may. */
 #define GATEWAY_VERSION_MAJOR 0
 #define GATEWAY_VERSION_MINOR 6
-#define GATEWAY_VERSION_PATCH 0
-#define GATEWAY_VERSION "0.6.0"
+#define GATEWAY_VERSION_PATCH 1
+#define GATEWAY_VERSION "0.6.1"
 extern const char gateway_version[], gateway_commit[];
 
 /* How many bytes each buffer has at least; the records have GATEWAY_RECORDS. More may be lent: bytes past those written

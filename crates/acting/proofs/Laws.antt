@@ -16,14 +16,16 @@ use Rattle.rules.specs.declared.Film.{Film}
 use Rattle.rules.specs.declared.Name.{Name}
 use Rattle.rules.specs.declared.Action.{Action}
 use Rattle.rules.specs.declared.Request.{Request}
-use Rattle.rules.specs.declared.Verdict.{Verdict}
 use Rattle.rules.specs.Lists.{any}
 use Rattle.rules.specs.declared.Instance.{Instance}
 use Rattle.rules.specs.declared.Instance.the-variants.{Nobody, TheSession, TheFilm, TheBox}
-use Rattle.rules.specs.Records.{shelved, entriesOf, filmsUnder}
+use Rattle.rules.specs.Records.{noFilm, shelved, entriesOf, noSession, filmsUnder}
 use Rattle.rules.specs.Effects.{printed, noneFilled, queueRoom}
 use Rattle.rules.specs.Checks.{printedWith, targetRules, sessionPrintRules, filmPrintRules, deletePlan, decidedBy}
 use Rattle.promises.proofs.Places.{films-under}
+use Rattle.changes.specs.declared.Effect.{Effect}
+use Rattle.changes.specs.declared.Decision.{Decision}
+use Rattle.changes.specs.Changes.{affected, verdictOf, EffectFits, Fits}
 use Rattle.verdicts.specs.Ready.{Ready}
 use Rattle.choice.proofs.Broken.{none-broken}
 use Rattle.acting.specs.Acting.{otherAction, actionRules, queuing}
@@ -51,9 +53,12 @@ one-empty f = same (noneFilled f)
     same false = refl
 
 -- films queued
-pub queued-so : (k after : Core) (name : Name) (warning : ℕ) (films : List Film) (status count : ℕ) (v : Verdict) → v ≡ queuing after name status count
-    → after ≡ printed k films → status ≡ pick (any noneFilled films) warning 0 → count ≡ length films → v ≡ printedWith k warning films name
-queued-so k after name warning films status count v e printed-so warned-so counted = e ∙ rw (printed-so, warned-so, counted)
+pub queued-so : (k : Core) (effect : Effect) (name : Name) (warning : ℕ) (films : List Film) (status count : ℕ) (d : Decision) → d ≡ queuing effect name status count
+    → affected k noSession noFilm effect ≡ printed k films → status ≡ pick (any noneFilled films) warning 0 → count ≡ length films → verdictOf k d ≡ printedWith k warning films name
+queued-so k effect name warning films status count d e printed-so warned-so counted = rw (e, printed-so, warned-so, counted)
+
+pub effect-fits : (k : Core) (effect : Effect) (name : Name) (status count : ℕ) (d : Decision) → d ≡ queuing effect name status count → EffectFits k effect → Fits k (d .change)
+effect-fits k effect name status count d e fits = rw e fits
 
 -- a deletion has no rules of its own
 pub plain-delete : (k : Core) (c : List ℕ) (r : Request) (x : Instance) (name : Name) → deletePlan k x name .verdict ≡ decidedBy k c r (deletePlan k x name)

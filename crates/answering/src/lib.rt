@@ -1,76 +1,78 @@
 // Answering: a fragment fed: collected, and a whole command decided, answered, and its effect written.
+use changes::Decision;
 use collecting::Answer;
 use elements::Read;
+use records::AT_CONTEXT;
 use rules::Command;
-use rules::Core;
 use rules::Note;
 use rules::Operation;
 use rules::Request;
-use rules::Verdict;
 use strike::Came;
 ghost use mathlib.Core.Path.{_≡_};
 ghost use Prim.Native.Nat.{_≤_};
-ghost use lib.ListN.{length, take};
+ghost use lib.ListN.{length};
 ghost use Rattle.octets.specs.Octets.{laid};
 ghost use Rattle.rules.specs.Layout.{recordsSize};
+ghost use Rattle.rules.specs.Records.{commandHeld};
 ghost use Rattle.rules.specs.Checks.{planOf, decidedBy, decideRequest, resultOf, decide};
 ghost use Rattle.rules.specs.Outcomes.{reportBytes};
-ghost use Rattle.verdicts.specs.Ready.{Ready, UidsIn};
+ghost use Rattle.records.specs.Places.{coreIn, heldIn};
+ghost use Rattle.verdicts.specs.Ready.{Ready, ReadyIn, UidsIn};
+ghost use Rattle.verdicts.specs.Decided.{Decides};
+ghost use Rattle.collecting.specs.Collecting.{Filled};
 ghost use Rattle.feeding.specs.Feeding.{unknownReply};
 ghost use Rattle.runs.specs.Contracts.{FeedMet};
-ghost use Rattle.answering.specs.Answered.{replyIn, settledBy, unknownResult, RoomFor};
+ghost use Rattle.answering.specs.Answered.{settledBy, unknownResult, RoomFor, Leaves};
 
 // A known request, by checks 2 to 11.
 
 // Checks 6 to 11, by the operation.
-fn planned(k: Core, c: &[u8], d: &[u8], message: u16, operation: Operation) -> Verdict
-    requires { ⌜ Ready k × UidsIn (now c) operation × (length (now d) ≤ 16777216) ⌝ }
-    ensures { λ r. ⌜ r ≡ decidedBy k (now (c .entry)) (record { message = message; operation = operation }) (planOf k (now (c .entry)) (now (d .entry)) operation) ⌝ }
+fn planned(b: &[u8], c: &[u8], d: &[u8], message: u16, operation: Operation) -> Decision
+    requires { ⌜ ReadyIn (now b) × UidsIn (now c) operation × (length (now d) ≤ 16777216) ⌝ }
+    ensures { λ r. ⌜ Decides (coreIn (now (b .entry))) r (decidedBy (coreIn (now (b .entry))) (now (c .entry)) (record { message = message; operation = operation }) (planOf (coreIn (now (b .entry))) (now (c .entry)) (now (d .entry)) operation)) ⌝ }
 {
     match operation {
-        Operation::Echo(_) => verdicts::quiet(k, shelves::no_name()),
-        Operation::Create(creation) => creating::created(k, c, d, message, creation),
-        Operation::Set(target) => setting::set(k, c, d, message, target),
-        Operation::Act(action) => acting::acted(k, c, message, action),
-        Operation::Delete(target) => acting::deleted(k, c, message, target),
+        Operation::Echo(_) => verdicts::quiet(shelves::no_name()),
+        Operation::Create(creation) => creating::created(b, c, d, message, creation),
+        Operation::Set(target) => setting::set(b, c, d, message, target),
+        Operation::Act(action) => acting::acted(b, c, message, action),
+        Operation::Delete(target) => acting::deleted(b, c, message, target),
     }
 }
 
-fn decided(k: Core, c: &[u8], came: Came, d: &[u8], request: Request) -> Verdict
-    requires { ⌜ Ready k × UidsIn (now c) (request .operation) × (length (now d) ≤ 16777216) ⌝ }
-    ensures { λ r. ⌜ r ≡ decideRequest k (now (c .entry)) (record { came = came; bytes = now (d .entry) }) request ⌝ }
+fn decided(b: &[u8], c: &[u8], came: Came, d: &[u8], request: Request) -> Decision
+    requires { ⌜ ReadyIn (now b) × UidsIn (now c) (request .operation) × (length (now d) ≤ 16777216) ⌝ }
+    ensures { λ r. ⌜ Decides (coreIn (now (b .entry))) r (decideRequest (coreIn (now (b .entry))) (now (c .entry)) (record { came = came; bytes = now (d .entry) }) request) ⌝ }
 {
     let operation = request.operation;
     let broken = checks::general_broken(c, came, operation);
     if broken != 0 {
-        return verdicts::failed(k, c, request, Note::NoNote, broken);
+        return verdicts::failed(c, request, Note::NoNote, broken);
     }
-    let opened = k.opened;
-    match checks::reading(headers::syntax_of(opened.syntax), came, d) {
-        Read::Past(_) => planned(k, c, d, request.message, operation),
-        Read::Refused(stop) => verdicts::failed(k, c, request, Note::StoppedAt(stop), 0x0110),
+    match checks::reading(records::syntax_in(b), came, d) {
+        Read::Past(_) => planned(b, c, d, request.message, operation),
+        Read::Refused(stop) => verdicts::failed(c, request, Note::StoppedAt(stop), 0x0110),
     }
 }
 
 // A whole command.
 
-// A request that is known: decided, answered, and its effect written.
+// A request that is known: decided and answered where its command lies, and then its effect written.
 fn known(
     records: &mut [u8],
     command: &mut [u8],
     data_set: &mut [u8],
     report: &mut [u8],
-    k: Core,
-    c: &[u8],
     came: Came,
     d: &[u8],
     request: Request,
 )
-    requires { ⌜ RoomFor (now records) (now command) (now data_set) (now report) × Ready k × UidsIn (now c) (request .operation) × (length (now d) ≤ 16777216) ⌝ }
-    ensures { λ _. ⌜ (now (records .exit) ≡ settledBy (resultOf k (now (c .entry)) request (decideRequest k (now (c .entry)) (record { came = came; bytes = now (d .entry) }) request)) (now (records .entry))) × (now (command .exit) ≡ laid (now (command .entry)) 0 (replyIn (resultOf k (now (c .entry)) request (decideRequest k (now (c .entry)) (record { came = came; bytes = now (d .entry) }) request)) .command)) × (now (data_set .exit) ≡ laid (now (data_set .entry)) 0 (replyIn (resultOf k (now (c .entry)) request (decideRequest k (now (c .entry)) (record { came = came; bytes = now (d .entry) }) request)) .dataSet)) × (now (report .exit) ≡ laid (now (report .entry)) 0 (reportBytes (replyIn (resultOf k (now (c .entry)) request (decideRequest k (now (c .entry)) (record { came = came; bytes = now (d .entry) }) request))))) ⌝ }
+    requires { ⌜ RoomFor (now records) (now command) (now data_set) (now report) × Filled (heldIn (now records)) × Ready (coreIn (now records)) × UidsIn (commandHeld (heldIn (now records))) (request .operation) × (length (now d) ≤ 16777216) ⌝ }
+    ensures { λ _. ⌜ Leaves (resultOf (coreIn (now (records .entry))) (commandHeld (heldIn (now (records .entry)))) request (decideRequest (coreIn (now (records .entry))) (commandHeld (heldIn (now (records .entry)))) (record { came = came; bytes = now (d .entry) }) request)) (now (records .entry)) (now (records .exit)) (now (command .entry)) (now (command .exit)) (now (data_set .entry)) (now (data_set .exit)) (now (report .entry)) (now (report .exit)) ⌝ }
 {
-    let v = decided(k, c, came, d, request);
-    feeding::respond(command, data_set, report, k, c, request, v);
+    let c = collecting::command_held(records);
+    let v = decided(records, c, came, d, request);
+    feeding::respond(command, data_set, report, records, c, request, v);
     feeding::put_settled(records, v);
 }
 
@@ -83,36 +85,22 @@ fn unknown(records: &mut [u8], command: &mut [u8], report: &mut [u8], message: u
     feeding::put_idle(records);
 }
 
-// A request whose command is whole, the first bytes of a text.
+// A request whose command is whole, in the records.
 fn asked(
     records: &mut [u8],
     command: &mut [u8],
     data_set: &mut [u8],
     report: &mut [u8],
-    k: Core,
-    text: [u8; 1024],
-    used: usize,
     came: Came,
     d: &[u8],
 )
-    requires { ⌜ RoomFor (now records) (now command) (now data_set) (now report) × Ready k × (length (now d) ≤ 16777216) ⌝ }
-    ensures { λ _. ⌜ (now (records .exit) ≡ settledBy (decide k (take used text) (record { came = came; bytes = now (d .entry) })) (now (records .entry))) × (now (command .exit) ≡ laid (now (command .entry)) 0 (replyIn (decide k (take used text) (record { came = came; bytes = now (d .entry) })) .command)) × (now (data_set .exit) ≡ laid (now (data_set .entry)) 0 (replyIn (decide k (take used text) (record { came = came; bytes = now (d .entry) })) .dataSet)) × (now (report .exit) ≡ laid (now (report .entry)) 0 (reportBytes (replyIn (decide k (take used text) (record { came = came; bytes = now (d .entry) }))))) ⌝ }
+    requires { ⌜ RoomFor (now records) (now command) (now data_set) (now report) × Filled (heldIn (now records)) × Ready (coreIn (now records)) × (length (now d) ≤ 16777216) ⌝ }
+    ensures { λ _. ⌜ Leaves (decide (coreIn (now (records .entry))) (commandHeld (heldIn (now (records .entry)))) (record { came = came; bytes = now (d .entry) })) (now (records .entry)) (now (records .exit)) (now (command .entry)) (now (command .exit)) (now (data_set .entry)) (now (data_set .exit)) (now (report .entry)) (now (report .exit)) ⌝ }
 {
-    let c = octets::front(&text, used);
-    match commands::understood(c) {
+    match commands::understood(collecting::command_held(records)) {
         Command::Unreadable => unknown(records, command, report, 0, 0),
         Command::Unknown { message, field } => unknown(records, command, report, message, field),
-        Command::Known(request) => known(
-            records,
-            command,
-            data_set,
-            report,
-            k,
-            c,
-            came,
-            d,
-            request,
-        ),
+        Command::Known(request) => known(records, command, data_set, report, came, d, request),
     }
 }
 
@@ -128,14 +116,12 @@ pub fn feed(
 ) -> u32
     ensures { λ r. ⌜ FeedMet (record { records = now (records .entry); message = now (message .entry); command = now (command .entry); dataSet = now (data_set .entry); report = now (report .entry) }) (now (fragment .entry)) r (record { records = now (records .exit); message = now (message .exit); command = now (command .exit); dataSet = now (data_set .exit); report = now (report .exit) }) ⌝ }
 {
-    let found = soundness::unpack_checked(records);
-    if found.refusal != 0 {
-        return found.refusal;
+    let unread = soundness::refusal(records);
+    if unread != 0 {
+        return unread;
     }
-    let s = found.state;
-    let k = s.core;
     let refused = feeding::feed_refused(
-        k,
+        records,
         message.len(),
         command.len(),
         data_set.len(),
@@ -144,32 +130,17 @@ pub fn feed(
     if refused != 0 {
         return refused;
     }
-    let opened = k.opened;
-    if collecting::header_wrong(opened.context, fragment) {
-        opening::put_core(records, shelves::closed(k));
+    if collecting::header_wrong(records[AT_CONTEXT], fragment) {
+        opening::put_closed(records);
         return 5;
     }
-    let r = collecting::collect(s.input, message, fragment);
-    let i = r.input;
-    let text = i.command;
-    let used = i.used as usize;
-    let answer = r.answer;
-    match answer {
-        Answer::Ignored => {
-            feeding::put_input(records, i);
-            18
-        }
-        Answer::Wait => {
-            feeding::put_input(records, i);
-            16
-        }
-        Answer::Dropped => {
-            feeding::put_input(records, i);
-            17
-        }
+    match collecting::collect(records, message, fragment) {
+        Answer::Ignored => 18,
+        Answer::Wait => 16,
+        Answer::Dropped => 17,
         Answer::Asks(came) => {
-            let d = octets::front(message, i.got as usize);
-            asked(records, command, data_set, report, k, text, used, came, d);
+            let d = octets::front(message, collecting::got(records));
+            asked(records, command, data_set, report, came, d);
             19
         }
     }

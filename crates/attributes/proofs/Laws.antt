@@ -1,58 +1,79 @@
 -- What is told of attributes one by one, and what the worst of them says.
 -- Assumes nothing.
 use Prim.Native.Nat.{ℕ, _≤_, _-_, _+_}
-use mathlib.Core.Path.{_≡_, refl, sym, ap, _∙_}
+use mathlib.Core.Path.{_≡_, refl, sym, ap, subst, _∙_}
 use mathlib.Core.Bool.{Bool, true, false}
 use mathlib.Core.List.{List, [], _∷_, _++_}
 use native.Mathlib.Omega.{arith}
 use lib.Dec.{leb, ltb}
-use lib.ListN.{length, drop, replicate, length-replicate, replicate-append-replicate}
+use lib.ListN.{length, getD, drop, replicate, length-replicate, replicate-append-replicate}
 use lib.Seq.{drop-at}
-use borrow.Author.Tests.{ltb-true, ltb-false, leb-true, eqb-true}
+use borrow.Author.Tests.{ne-eqb, ltb-true, ltb-false, leb-true, eqb-true}
 use Rattle.choice.specs.Pick.{pick, either}
 use Rattle.choice.specs.Rules.{firstBroken}
 use Rattle.choice.proofs.Picks.{both-true}
-use Rattle.octets.specs.Octets.{laid}
-use Rattle.headers.specs.declared.Part.{Part}
+use Rattle.octets.specs.Octets.{laid, same}
+use Rattle.headers.specs.declared.Syntax.{Syntax}
+use Rattle.headers.specs.declared.Scope.{Scope}
 use Rattle.elements.specs.declared.Found.{Found}
 use Rattle.elements.specs.declared.Found.the-variants.{Missing, Value, Sequence}
+use Rattle.elements.specs.Reader.{dataScope}
+use Rattle.elements.specs.Find.{findAt}
+use Rattle.elements.proofs.Laws.{find-within}
 use Rattle.rules.specs.Lists.{any, every, filledTo}
 use Rattle.rules.specs.Values.{blank, trimmed, withoutLeading, withoutTrailing, codeIn, labelByte, labelAllowed}
-use Rattle.rules.specs.Commands.{placed, bytesOf}
-use Rattle.rules.specs.Attributes.{Listing, Standing, missing, empty, wrong, fine, is, look, valueOf, mandatory, optional, given, orKept, codeAllowed, code, attributeRules, sessionStandings, mustBeAbsent}
-use Rattle.standings.specs.Severity.{kindOf, severity, severityBy, optionalBy, givenBy, worse, rank, worst, statusOf}
-use Rattle.standings.proofs.Laws.{valueAt, mandatory-severity, optional-severity, given-by, worst-cons, worst-status}
+use Rattle.rules.specs.declared.Numbers.{Numbers}
+use Rattle.rules.specs.Records.{sessionNamed, sessionsOf, uidOf}
+use Rattle.rules.specs.Layout.{numbersSize, nameFormat, sessionFormat}
+use Rattle.rules.specs.Commands.{bytesOf}
+use Rattle.rules.specs.Attributes.{Listing, Standing, missing, empty, wrong, fine, is, listingOf, look, valueOf, mandatory, optional, orKept, codeAllowed, attributeRules, sessionStandings}
+use Rattle.records.specs.Places.{numbersIn, sessionIn, coreIn}
+use Rattle.records.proofs.Parts.{core-numbers, core-sessions}
+use Rattle.standings.specs.Severity.{kindOf, severity, optionalBy, givenBy, worse, rank, worst, statusOf}
+use Rattle.standings.proofs.Laws.{valueAt, found-place, mandatory-severity, optional-severity, given-by, worst-cons, worst-status}
+use Rattle.attributes.specs.Founds.{Placed, bytesFound, mandatoryFound, optionalFound, foundOr}
 
--- What is told of one attribute: its kind, its place, its bytes, and two tests of them.
+-- What was found lies within the bytes that it was found in.
 
-module _ (isEmpty allowed : List ℕ → Bool) (l : Listing) (f : Found) {kind n : ℕ} {p : Part} {v : List ℕ} {e a : Bool} (k : kind ≡ kindOf f) (q : p ≡ placed f) (w : v ≡ bytesOf (l .bytes) p) (x : e ≡ isEmpty v) (y : a ≡ allowed v) where
-  by-value : (by : ℕ → Bool → Bool → ℕ) → n ≡ by kind e a → n ≡ by (kindOf f) (isEmpty (valueAt l f)) (allowed (valueAt l f))
-  by-value by z = z ∙ rw (k, x, y, w, q)
+pub found-within : (d : List ℕ) (scope : Scope) (tag : ℕ) {f : Found} → scope .inside .from ≤ scope .inside .stop → scope .inside .stop ≤ length d → f ≡ findAt d scope tag → Placed d f
+found-within d scope tag g h e = subst (Placed d) (sym e) (found-place (length d) (findAt d scope tag) _ _ h (find-within d scope tag g))
 
-  pub mandatory-told : n ≡ severityBy kind e a → n ≡ severity (mandatory isEmpty allowed l f)
-  mandatory-told z = by-value severityBy z ∙ sym (mandatory-severity isEmpty allowed l f)
+pub found-placed : (d : List ℕ) (syntax : Syntax) (tag : ℕ) {f : Found} → f ≡ look (listingOf d syntax) tag → Placed d f
+found-placed d syntax tag e = found-within d (dataScope d syntax) tag (omega arith) (omega arith) e
 
-  pub optional-told : n ≡ optionalBy kind e a → n ≡ severity (optional (mandatory isEmpty allowed l f))
-  optional-told z = by-value optionalBy z ∙ sym (optional-severity isEmpty allowed l f)
+-- What is told of one attribute: its kind, its bytes, and tests of them.
 
-pub given-told : (isEmpty : List ℕ → Bool) (l : Listing) (f : Found) {kind : ℕ} {p : Part} {v : List ℕ} {e g : Bool}
-    → kind ≡ kindOf f → p ≡ placed f → v ≡ bytesOf (l .bytes) p → e ≡ isEmpty v → g ≡ givenBy kind e → g ≡ given isEmpty l f
-given-told isEmpty l f k q w x z = z ∙ (rw (k, x, w, q) (sym (given-by isEmpty l f)))
+module _ (isEmpty allowed : List ℕ → Bool) (d : List ℕ) (f : Found) {kind n : ℕ} {v : List ℕ} {e a : Bool} (k : kind ≡ kindOf f) (w : v ≡ bytesFound d f) (x : e ≡ isEmpty v) (y : a ≡ allowed v) where
+  pub by-value : (by : ℕ → Bool → Bool → ℕ) → n ≡ by kind e a → n ≡ by (kindOf f) (isEmpty (bytesFound d f)) (allowed (bytesFound d f))
+  by-value by z = z ∙ rw (k, x, y, w)
 
--- What is told of a code: which of the texts it is.
-pub code-told : (texts : List (List ℕ)) (l : Listing) (tag : ℕ) {kind place n : ℕ} {p : Part} {v : List ℕ} {e : Bool}
-    → kind ≡ kindOf (look l tag) → p ≡ placed (look l tag) → v ≡ bytesOf (l .bytes) p → e ≡ blank v → place ≡ codeIn texts v
-    → n ≡ optionalBy kind e (ltb place (length texts)) → n ≡ severity (optional (code texts l tag))
-code-told texts l tag k q w x y z = optional-told blank (codeAllowed texts) l (look l tag) k q w x (ap (λ i. ltb i (length texts)) y) z
+-- a code: which of the texts it is
+pub code-told : (texts : List (List ℕ)) (d : List ℕ) (f : Found) {kind place n : ℕ} {v : List ℕ} {e : Bool}
+    → kind ≡ kindOf f → v ≡ bytesFound d f → e ≡ blank v → place ≡ codeIn texts v → n ≡ optionalBy kind e (ltb place (length texts)) → n ≡ optionalFound (codeAllowed texts) d f
+code-told texts d f k w x y z = by-value blank (codeAllowed texts) d f k w x (ap (λ i. ltb i (length texts)) y) optionalBy z
 
 -- What an attribute gives, and what is kept where it is absent.
 
-module _ {A : Type 0} (isEmpty : List ℕ → Bool) (l : Listing) (tag : ℕ) (read : List ℕ → A) (kept : A) {g : Bool} (h : g ≡ given isEmpty l (look l tag)) where
-  pub given-read : g ≡ true → {v : List ℕ} {r : A} → v ≡ valueOf l tag → r ≡ read v → r ≡ orKept isEmpty l tag read kept
-  given-read t w x = x ∙ ap read w ∙ rw (sym h ∙ t)
+module _ {A : Type 0} (read : List ℕ → A) (d : List ℕ) (f : Found) (kept : A) {kind : ℕ} {v : List ℕ} {e g : Bool} (k : kind ≡ kindOf f) (w : v ≡ bytesFound d f) (x : e ≡ blank v) (h : g ≡ givenBy kind e) where
+  given-told : g ≡ givenBy (kindOf f) (blank (bytesFound d f))
+  given-told = h ∙ rw (k, x, w)
 
-  pub not-given : g ≡ false → kept ≡ orKept isEmpty l tag read kept
-  not-given t = rw (sym h ∙ t)
+  pub given-read : g ≡ true → {r : A} → r ≡ read v → r ≡ foundOr read d f kept
+  given-read t z = z ∙ ap read w ∙ rw (sym given-told ∙ t)
+
+  pub not-given : g ≡ false → kept ≡ foundOr read d f kept
+  not-given t = rw (sym given-told ∙ t)
+
+-- The same of a list that holds it under a tag.
+
+pub mandatory-listed : (isEmpty allowed : List ℕ → Bool) (l : Listing) (tag : ℕ) {f : Found} {n : ℕ} → f ≡ look l tag → n ≡ mandatoryFound isEmpty allowed (l .bytes) f → n ≡ severity (mandatory isEmpty allowed l (look l tag))
+mandatory-listed isEmpty allowed l tag e z = z ∙ ap (mandatoryFound isEmpty allowed (l .bytes)) e ∙ sym (mandatory-severity isEmpty allowed l (look l tag))
+
+pub optional-listed : (allowed : List ℕ → Bool) (l : Listing) (tag : ℕ) {f : Found} {n : ℕ} → f ≡ look l tag → n ≡ optionalFound allowed (l .bytes) f → n ≡ severity (optional (mandatory blank allowed l (look l tag)))
+optional-listed allowed l tag e z = z ∙ ap (optionalFound allowed (l .bytes)) e ∙ sym (optional-severity blank allowed l (look l tag))
+
+pub kept-listed : {A : Type 0} (read : List ℕ → A) (l : Listing) (tag : ℕ) (kept : A) {f : Found} {r : A} → f ≡ look l tag → r ≡ foundOr read (l .bytes) f kept → r ≡ orKept blank l tag read kept
+kept-listed read l tag kept e z = z ∙ ap (λ f. foundOr read (l .bytes) f kept) e ∙ ap (λ g. pick g (read (valueOf l tag)) kept) (sym (given-by blank l (look l tag)))
 
 -- The worst of several.
 
@@ -150,18 +171,6 @@ label-bound l h =
 pub fits-told : {u v t : List ℕ} → v ≡ u → t ≡ trimmed v → length (trimmed u) ≤ 64 → length t ≤ 64
 fits-told x y h = rw (y, x) h
 
--- An attribute that must be absent.
-
-pub absent-fine : (f : Found) {kind : ℕ} → kind ≡ kindOf f → kind ≡ 0 → 0 ≡ severity (mustBeAbsent f)
-absent-fine Missing k z = refl
-absent-fine (Value p) k z = absurd (omega (arith, k, z))
-absent-fine (Sequence inside) k z = absurd (omega (arith, k, z))
-
-pub absent-wrong : (f : Found) {kind : ℕ} → kind ≡ kindOf f → (kind ≡ 0 → ⊥) → 1 ≡ severity (mustBeAbsent f)
-absent-wrong Missing k n = absurd (n k)
-absent-wrong (Value p) k n = refl
-absent-wrong (Sequence inside) k n = refl
-
 -- Bytes in front of zeros.
 
 behind-blank : (k m x : ℕ) → drop k (replicate (k + m) x) ≡ replicate m x
@@ -175,3 +184,26 @@ laid-blank n x t h = ap (λ z. t ++ z) (drop-blank n (0 + length t) (n - length 
 
 pub label-laid : {u v t r : List ℕ} → v ≡ u → t ≡ trimmed v → length (trimmed u) ≤ 64 → r ≡ laid (replicate 64 0) 0 t → r ≡ filledTo 64 0 (trimmed v)
 label-laid {t = t} x y h z = z ∙ (laid-blank 64 0 t (fits-told x y h) ∙ ap (filledTo 64 0) y)
+
+-- The session that a reference may name, where it stands.
+
+either-only : (b : Bool) → either b false ≡ b
+either-only true = refl
+either-only false = refl
+
+module _ (b uid : List ℕ) where
+  session-there : any (sessionNamed (coreIn b .numbers) uid) (sessionsOf (coreIn b)) ≡ sessionNamed (numbersIn b) uid (sessionIn b)
+  unfolding any
+  session-there =
+      ap (λ (n : Numbers). any (sessionNamed n uid) (sessionsOf (coreIn b))) (core-numbers b)
+      ∙ ap (any (sessionNamed (numbersIn b) uid)) (core-sessions b)
+      ∙ either-only (sessionNamed (numbersIn b) uid (sessionIn b))
+
+  pub session-dead : getD b numbersSize 0 ≡ 0 → false ≡ any (sessionNamed (coreIn b .numbers) uid) (sessionsOf (coreIn b))
+  unfolding sessionFormat
+  session-dead e = sym (session-there ∙ rw e)
+
+  pub session-live : (getD b numbersSize 0 ≡ 0 → ⊥) → {r : Bool} → r ≡ same uid (uidOf (numbersIn b) (nameFormat .read b (numbersSize + 1)))
+      → r ≡ any (sessionNamed (coreIn b .numbers) uid) (sessionsOf (coreIn b))
+  unfolding sessionFormat
+  session-live e named = named ∙ sym (session-there ∙ rw (ne-eqb (getD b numbersSize 0) 0 e))

@@ -4,31 +4,30 @@ use elements::Items;
 use headers::Inside;
 use headers::Scope;
 use headers::Syntax;
-use rules::Core;
+use records::AT_SESSIONS;
 use rules::Film;
 use rules::Layout;
-use rules::Numbers;
 use rules::Session;
-use standings::Attribute;
 ghost use mathlib.Core.Path.{_≡_};
 ghost use Prim.Native.Nat.{_≤_};
-ghost use mathlib.Core.List.{[], _∷_};
 ghost use lib.Dec.{eqb};
 ghost use lib.ListN.{length};
 ghost use Rattle.choice.specs.Pick.{both, not};
 ghost use Rattle.choice.specs.Rules.{firstBroken};
 ghost use Rattle.octets.specs.Octets.{same};
-ghost use Rattle.uids.specs.Uids.{isUid};
+ghost use Rattle.uids.specs.Uids.{isUid, unpadded};
 ghost use Rattle.elements.specs.declared.Items.the-variants.{One};
 ghost use Rattle.elements.specs.Reader.{scopeOf};
 ghost use Rattle.elements.specs.Find.{itemsAt};
 ghost use Rattle.rules.specs.Text.{sessionClass};
 ghost use Rattle.rules.specs.Lists.{any, filledTo};
-ghost use Rattle.rules.specs.Values.{trimmed, blank, countIn, labelAllowed, codeIn, priorities, media, destinations, orientations, magnifications, countsIn};
-ghost use Rattle.rules.specs.Records.{sessionNamed};
-ghost use Rattle.rules.specs.Commands.{placed};
-ghost use Rattle.rules.specs.Attributes.{listing, listingOf, look, valueOf, mandatory, optional, given, orKept, code, uid, attributeRules, sessionStandings, sessionWith, mustBeAbsent, referenceStandings, reference, optionalFilm, filmCreateStandings, filmSetStandings, filmWith, layoutIn};
-ghost use Rattle.standings.specs.Severity.{kindOf, severity, worst};
+ghost use Rattle.rules.specs.Values.{trimmed, noBytes, blank, countIn, labelAllowed, codeIn, priorities, media, destinations, orientations, magnifications, countsIn};
+ghost use Rattle.rules.specs.Records.{sessionNamed, sessionsOf};
+ghost use Rattle.rules.specs.Layout.{recordsSize};
+ghost use Rattle.rules.specs.Attributes.{listingOf, look, codeAllowed, attributeRules, sessionStandings, sessionWith, mustBeAbsent, referenceStandings, reference, optionalFilm, filmCreateStandings, filmSetStandings, filmWith, layoutIn};
+ghost use Rattle.records.specs.Places.{coreIn};
+ghost use Rattle.standings.specs.Severity.{severity, worst};
+ghost use Rattle.attributes.specs.Founds.{SessionFound, FilmFound, Placed, bytesFound, mandatoryFound, optionalFound, foundOr};
 
 const COPIES: usize = 0x2000_0010;
 
@@ -52,226 +51,272 @@ const REFERENCED_CLASS: usize = 0x0008_1150;
 
 const REFERENCED_INSTANCE: usize = 0x0008_1155;
 
-// What the data set itself holds under a tag.
-fn look(d: &[u8], syntax: Syntax, tag: usize) -> Attribute
-    ensures { λ r. ⌜ (r .kind ≡ kindOf (look (listingOf (now (d .entry)) syntax) tag)) × (r .value ≡ placed (look (listingOf (now (d .entry)) syntax) tag)) × (r .value .from ≤ r .value .stop) × (r .value .stop ≤ length (now (d .entry))) ⌝ }
+// What the data set holds for a session.
+pub fn session_found(d: &[u8], syntax: Syntax) -> [Found; 9]
+    ensures { λ r. ⌜ SessionFound (listingOf (now (d .entry)) syntax) r ⌝ }
 {
-    standings::look(d, elements::data_scope(d, syntax), tag)
+    finding::gathered(
+        d,
+        elements::data_scope(d, syntax),
+        [COPIES, PRIORITY, MEDIUM, DESTINATION, LABEL, 0, 0, 0, 0],
+        5,
+    )
 }
 
-// Its bytes, none where there is no value.
-fn value_of(d: &[u8], syntax: Syntax, tag: usize) -> &[u8]
-    ensures { λ r. ⌜ now r ≡ valueOf (listingOf (now (d .entry)) syntax) tag ⌝ }
+// What it holds for a film.
+pub fn film_found(d: &[u8], syntax: Syntax) -> [Found; 9]
+    ensures { λ r. ⌜ FilmFound (listingOf (now (d .entry)) syntax) r ⌝ }
 {
-    let at = look(d, syntax, tag);
+    finding::gathered(
+        d,
+        elements::data_scope(d, syntax),
+        [FORMAT, ORIENTATION, MAGNIFICATION, REFERENCE, 0, 0, 0, 0, 0],
+        4,
+    )
+}
+
+// The bytes of what was found, none where it is no value.
+fn value_of(d: &[u8], found: Found) -> &[u8]
+    requires { ⌜ Placed (now d) found ⌝ }
+    ensures { λ r. ⌜ now r ≡ bytesFound (now (d .entry)) found ⌝ }
+{
+    let at = standings::seen(found);
     standings::value(d, at.value)
 }
 
-// Whether it is there, with a text that is not blank.
-fn is_given(d: &[u8], syntax: Syntax, tag: usize) -> bool
-    ensures { λ r. ⌜ r ≡ given blank (listingOf (now (d .entry)) syntax) (look (listingOf (now (d .entry)) syntax) tag) ⌝ }
+fn copies_severity(d: &[u8], found: Found) -> u8
+    requires { ⌜ Placed (now d) found ⌝ }
+    ensures { λ r. ⌜ r ≡ optionalFound (λ v. not (eqb (countIn 99 v) 0)) (now (d .entry)) found ⌝ }
 {
-    let at = look(d, syntax, tag);
-    let v = standings::value(d, at.value);
-    standings::is_given(at.kind, texts::is_blank(v))
+    let kind = standings::seen(found).kind;
+    let v = value_of(d, found);
+    standings::optional_severity(kind, texts::is_blank(v), texts::count_in(v, 99) != 0)
 }
 
-fn copies_severity(d: &[u8], syntax: Syntax) -> u8
-    ensures { λ r. ⌜ r ≡ severity (optional (mandatory blank (λ v. not (eqb (countIn 99 v) 0)) (listingOf (now (d .entry)) syntax) (look (listingOf (now (d .entry)) syntax) 0x2000_0010))) ⌝ }
+fn priority_severity(d: &[u8], found: Found) -> u8
+    requires { ⌜ Placed (now d) found ⌝ }
+    ensures { λ r. ⌜ r ≡ optionalFound (codeAllowed priorities) (now (d .entry)) found ⌝ }
 {
-    let at = look(d, syntax, COPIES);
-    let v = standings::value(d, at.value);
-    standings::optional_severity(at.kind, texts::is_blank(v), texts::count_in(v, 99) != 0)
+    let kind = standings::seen(found).kind;
+    let v = value_of(d, found);
+    standings::optional_severity(kind, texts::is_blank(v), values::priority_in(v) < 3)
 }
 
-fn priority_severity(d: &[u8], syntax: Syntax) -> u8
-    ensures { λ r. ⌜ r ≡ severity (optional (code priorities (listingOf (now (d .entry)) syntax) 0x2000_0020)) ⌝ }
+fn medium_severity(d: &[u8], found: Found) -> u8
+    requires { ⌜ Placed (now d) found ⌝ }
+    ensures { λ r. ⌜ r ≡ optionalFound (codeAllowed media) (now (d .entry)) found ⌝ }
 {
-    let at = look(d, syntax, PRIORITY);
-    let v = standings::value(d, at.value);
-    standings::optional_severity(at.kind, texts::is_blank(v), values::priority_in(v) < 3)
+    let kind = standings::seen(found).kind;
+    let v = value_of(d, found);
+    standings::optional_severity(kind, texts::is_blank(v), values::medium_in(v) < 3)
 }
 
-fn medium_severity(d: &[u8], syntax: Syntax) -> u8
-    ensures { λ r. ⌜ r ≡ severity (optional (code media (listingOf (now (d .entry)) syntax) 0x2000_0030)) ⌝ }
+fn destination_severity(d: &[u8], found: Found) -> u8
+    requires { ⌜ Placed (now d) found ⌝ }
+    ensures { λ r. ⌜ r ≡ optionalFound (codeAllowed destinations) (now (d .entry)) found ⌝ }
 {
-    let at = look(d, syntax, MEDIUM);
-    let v = standings::value(d, at.value);
-    standings::optional_severity(at.kind, texts::is_blank(v), values::medium_in(v) < 3)
+    let kind = standings::seen(found).kind;
+    let v = value_of(d, found);
+    standings::optional_severity(kind, texts::is_blank(v), values::destination_in(v) < 2)
 }
 
-fn destination_severity(d: &[u8], syntax: Syntax) -> u8
-    ensures { λ r. ⌜ r ≡ severity (optional (code destinations (listingOf (now (d .entry)) syntax) 0x2000_0040)) ⌝ }
+fn label_severity(d: &[u8], found: Found) -> u8
+    requires { ⌜ Placed (now d) found ⌝ }
+    ensures { λ r. ⌜ r ≡ optionalFound labelAllowed (now (d .entry)) found ⌝ }
 {
-    let at = look(d, syntax, DESTINATION);
-    let v = standings::value(d, at.value);
-    standings::optional_severity(at.kind, texts::is_blank(v), values::destination_in(v) < 2)
-}
-
-fn label_severity(d: &[u8], syntax: Syntax) -> u8
-    ensures { λ r. ⌜ r ≡ severity (optional (mandatory blank labelAllowed (listingOf (now (d .entry)) syntax) (look (listingOf (now (d .entry)) syntax) 0x2000_0050))) ⌝ }
-{
-    let at = look(d, syntax, LABEL);
-    let v = standings::value(d, at.value);
-    standings::optional_severity(at.kind, texts::is_blank(v), texts::label_allowed(v))
+    let kind = standings::seen(found).kind;
+    let v = value_of(d, found);
+    standings::optional_severity(kind, texts::is_blank(v), texts::label_allowed(v))
 }
 
 // Check 8 of a session.
-pub fn session_broken(d: &[u8], syntax: Syntax) -> u16
+pub fn session_broken(d: &[u8], syntax: Syntax, found: [Found; 9]) -> u16
+    requires { ⌜ SessionFound (listingOf (now d) syntax) found ⌝ }
     ensures { λ r. ⌜ r ≡ firstBroken (attributeRules (sessionStandings (listingOf (now (d .entry)) syntax))) ⌝ }
 {
-    let mut worst = label_severity(d, syntax);
-    worst = standings::worse(destination_severity(d, syntax), worst);
-    worst = standings::worse(medium_severity(d, syntax), worst);
-    worst = standings::worse(priority_severity(d, syntax), worst);
-    worst = standings::worse(copies_severity(d, syntax), worst);
+    let mut worst = label_severity(d, found[4]);
+    worst = standings::worse(destination_severity(d, found[3]), worst);
+    worst = standings::worse(medium_severity(d, found[2]), worst);
+    worst = standings::worse(priority_severity(d, found[1]), worst);
+    worst = standings::worse(copies_severity(d, found[0]), worst);
     standings::status_of(worst)
 }
 
-// What the data set gives, or what is kept where it gives nothing.
-fn copies_or(d: &[u8], syntax: Syntax, kept: u8) -> u8
-    ensures { λ r. ⌜ r ≡ orKept blank (listingOf (now (d .entry)) syntax) 0x2000_0010 (countIn 99) kept ⌝ }
+// What was found gives, or what is kept where it gives nothing.
+fn copies_or(d: &[u8], found: Found, kept: u8) -> u8
+    requires { ⌜ Placed (now d) found ⌝ }
+    ensures { λ r. ⌜ r ≡ foundOr (countIn 99) (now (d .entry)) found kept ⌝ }
 {
-    if is_given(d, syntax, COPIES) {
-        return texts::count_in(value_of(d, syntax, COPIES), 99) as u8;
+    let kind = standings::seen(found).kind;
+    let v = value_of(d, found);
+    if standings::is_given(kind, texts::is_blank(v)) {
+        return texts::count_in(v, 99) as u8;
     }
     kept
 }
 
-fn priority_or(d: &[u8], syntax: Syntax, kept: u8) -> u8
-    ensures { λ r. ⌜ r ≡ orKept blank (listingOf (now (d .entry)) syntax) 0x2000_0020 (codeIn priorities) kept ⌝ }
+fn priority_or(d: &[u8], found: Found, kept: u8) -> u8
+    requires { ⌜ Placed (now d) found ⌝ }
+    ensures { λ r. ⌜ r ≡ foundOr (codeIn priorities) (now (d .entry)) found kept ⌝ }
 {
-    if is_given(d, syntax, PRIORITY) {
-        return values::priority_in(value_of(d, syntax, PRIORITY)) as u8;
+    let kind = standings::seen(found).kind;
+    let v = value_of(d, found);
+    if standings::is_given(kind, texts::is_blank(v)) {
+        return values::priority_in(v) as u8;
     }
     kept
 }
 
-fn medium_or(d: &[u8], syntax: Syntax, kept: u8) -> u8
-    ensures { λ r. ⌜ r ≡ orKept blank (listingOf (now (d .entry)) syntax) 0x2000_0030 (codeIn media) kept ⌝ }
+fn medium_or(d: &[u8], found: Found, kept: u8) -> u8
+    requires { ⌜ Placed (now d) found ⌝ }
+    ensures { λ r. ⌜ r ≡ foundOr (codeIn media) (now (d .entry)) found kept ⌝ }
 {
-    if is_given(d, syntax, MEDIUM) {
-        return values::medium_in(value_of(d, syntax, MEDIUM)) as u8;
+    let kind = standings::seen(found).kind;
+    let v = value_of(d, found);
+    if standings::is_given(kind, texts::is_blank(v)) {
+        return values::medium_in(v) as u8;
     }
     kept
 }
 
-fn destination_or(d: &[u8], syntax: Syntax, kept: u8) -> u8
-    ensures { λ r. ⌜ r ≡ orKept blank (listingOf (now (d .entry)) syntax) 0x2000_0040 (codeIn destinations) kept ⌝ }
+fn destination_or(d: &[u8], found: Found, kept: u8) -> u8
+    requires { ⌜ Placed (now d) found ⌝ }
+    ensures { λ r. ⌜ r ≡ foundOr (codeIn destinations) (now (d .entry)) found kept ⌝ }
 {
-    if is_given(d, syntax, DESTINATION) {
-        return values::destination_in(value_of(d, syntax, DESTINATION)) as u8;
+    let kind = standings::seen(found).kind;
+    let v = value_of(d, found);
+    if standings::is_given(kind, texts::is_blank(v)) {
+        return values::destination_in(v) as u8;
     }
     kept
 }
 
-fn label_length_or(d: &[u8], syntax: Syntax, kept: u8) -> u8
-    requires { ⌜ length (trimmed (valueOf (listingOf (now d) syntax) 0x2000_0050)) ≤ 64 ⌝ }
-    ensures { λ r. ⌜ r ≡ orKept blank (listingOf (now (d .entry)) syntax) 0x2000_0050 (λ v. length (trimmed v)) kept ⌝ }
-{
-    if is_given(d, syntax, LABEL) {
-        return texts::trimmed(value_of(d, syntax, LABEL)).len() as u8;
-    }
-    kept
+// A text in front of zeros, and how many bytes it has.
+struct Label {
+    used: u8,
+    bytes: [u8; 64],
 }
 
-fn label_or(d: &[u8], syntax: Syntax, kept: [u8; 64]) -> [u8; 64]
-    requires { ⌜ length (trimmed (valueOf (listingOf (now d) syntax) 0x2000_0050)) ≤ 64 ⌝ }
-    ensures { λ r. ⌜ r ≡ orKept blank (listingOf (now (d .entry)) syntax) 0x2000_0050 (λ v. filledTo 64 0 (trimmed v)) kept ⌝ }
+fn label_or(d: &[u8], found: Found, kept: Label) -> Label
+    requires { ⌜ Placed (now d) found × (length (trimmed (bytesFound (now d) found)) ≤ 64) ⌝ }
+    ensures { λ r. ⌜ (r .used ≡ foundOr (λ v. length (trimmed v)) (now (d .entry)) found (kept .used)) × (r .bytes ≡ foundOr (λ v. filledTo 64 0 (trimmed v)) (now (d .entry)) found (kept .bytes)) ⌝ }
 {
-    if is_given(d, syntax, LABEL) {
-        let mut label = [0; 64];
-        octets::put(&mut label, 0, texts::trimmed(value_of(d, syntax, LABEL)));
-        return label;
+    let kind = standings::seen(found).kind;
+    let v = value_of(d, found);
+    if standings::is_given(kind, texts::is_blank(v)) {
+        let text = texts::trimmed(v);
+        let mut bytes = [0; 64];
+        octets::put(&mut bytes, 0, text);
+        return Label {
+            used: text.len() as u8,
+            bytes,
+        };
     }
     kept
 }
 
 // A session with what the data set gives.
-pub fn session_with(d: &[u8], syntax: Syntax, s: Session) -> Session
-    requires { ⌜ firstBroken (attributeRules (sessionStandings (listingOf (now d) syntax))) ≡ 0 ⌝ }
+pub fn session_with(d: &[u8], syntax: Syntax, found: [Found; 9], s: Session) -> Session
+    requires { ⌜ SessionFound (listingOf (now d) syntax) found × (firstBroken (attributeRules (sessionStandings (listingOf (now d) syntax))) ≡ 0) ⌝ }
     ensures { λ r. ⌜ r ≡ sessionWith (listingOf (now (d .entry)) syntax) s ⌝ }
 {
     let name = s.name;
-    let label = s.label;
+    let bytes = s.label;
+    let kept = Label {
+        used: s.used,
+        bytes,
+    };
+    let given = label_or(d, found[4], kept);
+    let label = given.bytes;
     Session {
         live: s.live,
         name,
-        copies: copies_or(d, syntax, s.copies),
-        priority: priority_or(d, syntax, s.priority),
-        medium: medium_or(d, syntax, s.medium),
-        destination: destination_or(d, syntax, s.destination),
-        used: label_length_or(d, syntax, s.used),
-        label: label_or(d, syntax, label),
+        copies: copies_or(d, found[0], s.copies),
+        priority: priority_or(d, found[1], s.priority),
+        medium: medium_or(d, found[2], s.medium),
+        destination: destination_or(d, found[3], s.destination),
+        used: given.used,
+        label,
     }
 }
 
-fn orientation_severity(d: &[u8], syntax: Syntax) -> u8
-    ensures { λ r. ⌜ r ≡ severity (optional (code orientations (listingOf (now (d .entry)) syntax) 0x2010_0040)) ⌝ }
+fn orientation_severity(d: &[u8], found: Found) -> u8
+    requires { ⌜ Placed (now d) found ⌝ }
+    ensures { λ r. ⌜ r ≡ optionalFound (codeAllowed orientations) (now (d .entry)) found ⌝ }
 {
-    let at = look(d, syntax, ORIENTATION);
-    let v = standings::value(d, at.value);
-    standings::optional_severity(at.kind, texts::is_blank(v), values::orientation_in(v) < 2)
+    let kind = standings::seen(found).kind;
+    let v = value_of(d, found);
+    standings::optional_severity(kind, texts::is_blank(v), values::orientation_in(v) < 2)
 }
 
-fn magnification_severity(d: &[u8], syntax: Syntax) -> u8
-    ensures { λ r. ⌜ r ≡ severity (optional (code magnifications (listingOf (now (d .entry)) syntax) 0x2010_0060)) ⌝ }
+fn magnification_severity(d: &[u8], found: Found) -> u8
+    requires { ⌜ Placed (now d) found ⌝ }
+    ensures { λ r. ⌜ r ≡ optionalFound (codeAllowed magnifications) (now (d .entry)) found ⌝ }
 {
-    let at = look(d, syntax, MAGNIFICATION);
-    let v = standings::value(d, at.value);
-    standings::optional_severity(at.kind, texts::is_blank(v), values::magnification_in(v) < 4)
+    let kind = standings::seen(found).kind;
+    let v = value_of(d, found);
+    standings::optional_severity(kind, texts::is_blank(v), values::magnification_in(v) < 4)
 }
 
-fn optional_film(d: &[u8], syntax: Syntax) -> u8
+fn optional_film(d: &[u8], syntax: Syntax, found: [Found; 9]) -> u8
+    requires { ⌜ FilmFound (listingOf (now d) syntax) found ⌝ }
     ensures { λ r. ⌜ r ≡ worst (optionalFilm (listingOf (now (d .entry)) syntax)) ⌝ }
 {
     standings::worse(
-        orientation_severity(d, syntax),
-        magnification_severity(d, syntax),
+        orientation_severity(d, found[1]),
+        magnification_severity(d, found[2]),
     )
 }
 
 // "even empty"
-fn presence_severity(d: &[u8], syntax: Syntax, tag: usize) -> u8
-    ensures { λ r. ⌜ r ≡ severity (mustBeAbsent (look (listingOf (now (d .entry)) syntax) tag)) ⌝ }
+fn presence_severity(found: Found) -> u8
+    ensures { λ r. ⌜ r ≡ severity (mustBeAbsent found) ⌝ }
 {
-    let at = look(d, syntax, tag);
-    if at.kind == 0 {
-        return 0;
+    match found {
+        Found::Missing => 0,
+        Found::Value(_) => 1,
+        Found::Sequence(_) => 1,
     }
-    1
 }
 
 // Check 8 of a film on set.
-pub fn film_set_broken(d: &[u8], syntax: Syntax) -> u16
+pub fn film_set_broken(d: &[u8], syntax: Syntax, found: [Found; 9]) -> u16
+    requires { ⌜ FilmFound (listingOf (now d) syntax) found ⌝ }
     ensures { λ r. ⌜ r ≡ firstBroken (attributeRules (filmSetStandings (listingOf (now (d .entry)) syntax))) ⌝ }
 {
-    let mut worst = optional_film(d, syntax);
-    worst = standings::worse(presence_severity(d, syntax, REFERENCE), worst);
-    worst = standings::worse(presence_severity(d, syntax, FORMAT), worst);
+    let mut worst = optional_film(d, syntax, found);
+    worst = standings::worse(presence_severity(found[3]), worst);
+    worst = standings::worse(presence_severity(found[0]), worst);
     standings::status_of(worst)
 }
 
-fn orientation_or(d: &[u8], syntax: Syntax, kept: u8) -> u8
-    ensures { λ r. ⌜ r ≡ orKept blank (listingOf (now (d .entry)) syntax) 0x2010_0040 (codeIn orientations) kept ⌝ }
+fn orientation_or(d: &[u8], found: Found, kept: u8) -> u8
+    requires { ⌜ Placed (now d) found ⌝ }
+    ensures { λ r. ⌜ r ≡ foundOr (codeIn orientations) (now (d .entry)) found kept ⌝ }
 {
-    if is_given(d, syntax, ORIENTATION) {
-        return values::orientation_in(value_of(d, syntax, ORIENTATION)) as u8;
+    let kind = standings::seen(found).kind;
+    let v = value_of(d, found);
+    if standings::is_given(kind, texts::is_blank(v)) {
+        return values::orientation_in(v) as u8;
     }
     kept
 }
 
-fn magnification_or(d: &[u8], syntax: Syntax, kept: u8) -> u8
-    ensures { λ r. ⌜ r ≡ orKept blank (listingOf (now (d .entry)) syntax) 0x2010_0060 (codeIn magnifications) kept ⌝ }
+fn magnification_or(d: &[u8], found: Found, kept: u8) -> u8
+    requires { ⌜ Placed (now d) found ⌝ }
+    ensures { λ r. ⌜ r ≡ foundOr (codeIn magnifications) (now (d .entry)) found kept ⌝ }
 {
-    if is_given(d, syntax, MAGNIFICATION) {
-        return values::magnification_in(value_of(d, syntax, MAGNIFICATION)) as u8;
+    let kind = standings::seen(found).kind;
+    let v = value_of(d, found);
+    if standings::is_given(kind, texts::is_blank(v)) {
+        return values::magnification_in(v) as u8;
     }
     kept
 }
 
 // A film with what the data set gives.
-pub fn film_with(d: &[u8], syntax: Syntax, f: Film) -> Film
+pub fn film_with(d: &[u8], syntax: Syntax, found: [Found; 9], f: Film) -> Film
+    requires { ⌜ FilmFound (listingOf (now d) syntax) found ⌝ }
     ensures { λ r. ⌜ r ≡ filmWith (listingOf (now (d .entry)) syntax) f ⌝ }
 {
     let name = f.name;
@@ -282,27 +327,29 @@ pub fn film_with(d: &[u8], syntax: Syntax, f: Film) -> Film
         name,
         session: f.session,
         layout,
-        orientation: orientation_or(d, syntax, f.orientation),
-        magnification: magnification_or(d, syntax, f.magnification),
+        orientation: orientation_or(d, found[1], f.orientation),
+        magnification: magnification_or(d, found[2], f.magnification),
         first,
         boxes,
     }
 }
 
 // The layout that Format gives.
-pub fn layout_in(d: &[u8], syntax: Syntax) -> Layout
+pub fn layout_in(d: &[u8], syntax: Syntax, found: [Found; 9]) -> Layout
+    requires { ⌜ FilmFound (listingOf (now d) syntax) found ⌝ }
     ensures { λ r. ⌜ r ≡ layoutIn (listingOf (now (d .entry)) syntax) ⌝ }
 {
-    layouts::layout_in(value_of(d, syntax, FORMAT))
+    layouts::layout_in(value_of(d, found[0]))
 }
 
-fn format_severity(d: &[u8], syntax: Syntax) -> u8
-    ensures { λ r. ⌜ r ≡ severity (mandatory blank (λ v. not (eqb (length (countsIn v)) 0)) (listingOf (now (d .entry)) syntax) (look (listingOf (now (d .entry)) syntax) 0x2010_0010)) ⌝ }
+fn format_severity(d: &[u8], found: Found) -> u8
+    requires { ⌜ Placed (now d) found ⌝ }
+    ensures { λ r. ⌜ r ≡ mandatoryFound blank (λ v. not (eqb (length (countsIn v)) 0)) (now (d .entry)) found ⌝ }
 {
-    let at = look(d, syntax, FORMAT);
-    let v = standings::value(d, at.value);
+    let kind = standings::seen(found).kind;
+    let v = value_of(d, found);
     let layout = layouts::layout_in(v);
-    standings::severity(at.kind, texts::is_blank(v), layout.lines != 0)
+    standings::severity(kind, texts::is_blank(v), layout.lines != 0)
 }
 
 fn is_session_class(u: &[u8]) -> bool
@@ -315,57 +362,60 @@ fn is_session_class(u: &[u8]) -> bool
 }
 
 // "naming the live session"
-fn is_session(n: Numbers, s: Session, u: &[u8]) -> bool
-    ensures { λ r. ⌜ r ≡ both (isUid (now (u .entry))) (any (sessionNamed n (now (u .entry))) (s ∷ [])) ⌝ }
+fn is_session(b: &[u8], u: &[u8]) -> bool
+    requires { ⌜ recordsSize ≤ length (now b) ⌝ }
+    ensures { λ r. ⌜ r ≡ both (isUid (now (u .entry))) (any (sessionNamed (coreIn (now (b .entry)) .numbers) (now (u .entry))) (sessionsOf (coreIn (now (b .entry))))) ⌝ }
 {
     if !uids::is_uid(u) {
         return false;
     }
-    if s.live == 0 {
+    if b[AT_SESSIONS] == 0 {
         return false;
     }
-    let name = s.name;
-    instances::is_named(n, name, u)
+    instances::is_named_at(b, AT_SESSIONS + 1, u)
 }
 
-fn class_severity(d: &[u8], scope: Scope) -> u8
-    requires { ⌜ (scope .inside .from ≤ scope .inside .stop) × (scope .inside .stop ≤ length (now d)) ⌝ }
-    ensures { λ r. ⌜ r ≡ severity (uid (same sessionClass) (listing (now (d .entry)) scope) 0x0008_1150) ⌝ }
+fn class_severity(d: &[u8], found: Found) -> u8
+    requires { ⌜ Placed (now d) found ⌝ }
+    ensures { λ r. ⌜ r ≡ mandatoryFound noBytes (λ v. both (isUid (unpadded v)) (same sessionClass (unpadded v))) (now (d .entry)) found ⌝ }
 {
-    let at = standings::look(d, scope, REFERENCED_CLASS);
-    let v = standings::value(d, at.value);
-    standings::severity(at.kind, v.len() == 0, is_session_class(uids::unpadded(v)))
+    let kind = standings::seen(found).kind;
+    let v = value_of(d, found);
+    standings::severity(kind, v.len() == 0, is_session_class(uids::unpadded(v)))
 }
 
-fn instance_severity(n: Numbers, s: Session, d: &[u8], scope: Scope) -> u8
-    requires { ⌜ (scope .inside .from ≤ scope .inside .stop) × (scope .inside .stop ≤ length (now d)) ⌝ }
-    ensures { λ r. ⌜ r ≡ severity (uid (λ u. any (sessionNamed n u) (s ∷ [])) (listing (now (d .entry)) scope) 0x0008_1155) ⌝ }
+fn instance_severity(b: &[u8], d: &[u8], found: Found) -> u8
+    requires { ⌜ (recordsSize ≤ length (now b)) × Placed (now d) found ⌝ }
+    ensures { λ r. ⌜ r ≡ mandatoryFound noBytes (λ v. both (isUid (unpadded v)) (any (sessionNamed (coreIn (now (b .entry)) .numbers) (unpadded v)) (sessionsOf (coreIn (now (b .entry)))))) (now (d .entry)) found ⌝ }
 {
-    let at = standings::look(d, scope, REFERENCED_INSTANCE);
-    let v = standings::value(d, at.value);
-    standings::severity(at.kind, v.len() == 0, is_session(n, s, uids::unpadded(v)))
+    let kind = standings::seen(found).kind;
+    let v = value_of(d, found);
+    standings::severity(kind, v.len() == 0, is_session(b, uids::unpadded(v)))
 }
 
 // The only item of the reference.
-fn item_severity(k: Core, d: &[u8], syntax: Syntax, inside: Inside) -> u8
-    requires { ⌜ (inside .from ≤ inside .stop) × (inside .stop ≤ length (now d)) ⌝ }
-    ensures { λ r. ⌜ r ≡ worst (referenceStandings k (listingOf (now (d .entry)) syntax) (One inside)) ⌝ }
+fn item_severity(b: &[u8], d: &[u8], syntax: Syntax, inside: Inside) -> u8
+    requires { ⌜ (recordsSize ≤ length (now b)) × (inside .from ≤ inside .stop) × (inside .stop ≤ length (now d)) ⌝ }
+    ensures { λ r. ⌜ r ≡ worst (referenceStandings (coreIn (now (b .entry))) (listingOf (now (d .entry)) syntax) (One inside)) ⌝ }
 {
-    let numbers = k.numbers;
-    let places = k.sessions;
-    let session = shelves::the_session(places);
     let item = Scope {
         syntax,
         room: 3,
         inside,
     };
-    let instance = instance_severity(numbers, session, d, item);
-    standings::worse(class_severity(d, item), instance)
+    let found = finding::gathered(
+        d,
+        item,
+        [REFERENCED_CLASS, REFERENCED_INSTANCE, 0, 0, 0, 0, 0, 0, 0],
+        2,
+    );
+    let instance = instance_severity(b, d, found[1]);
+    standings::worse(class_severity(d, found[0]), instance)
 }
 
-fn sequence_severity(k: Core, d: &[u8], syntax: Syntax, inside: Inside) -> u8
-    requires { ⌜ (inside .from ≤ inside .stop) × (inside .stop ≤ length (now d)) ⌝ }
-    ensures { λ r. ⌜ r ≡ worst (referenceStandings k (listingOf (now (d .entry)) syntax) (itemsAt (now (d .entry)) (scopeOf syntax 3 inside))) ⌝ }
+fn sequence_severity(b: &[u8], d: &[u8], syntax: Syntax, inside: Inside) -> u8
+    requires { ⌜ (recordsSize ≤ length (now b)) × (inside .from ≤ inside .stop) × (inside .stop ≤ length (now d)) ⌝ }
+    ensures { λ r. ⌜ r ≡ worst (referenceStandings (coreIn (now (b .entry))) (listingOf (now (d .entry)) syntax) (itemsAt (now (d .entry)) (scopeOf syntax 3 inside))) ⌝ }
 {
     let sequence = Scope {
         syntax,
@@ -374,27 +424,29 @@ fn sequence_severity(k: Core, d: &[u8], syntax: Syntax, inside: Inside) -> u8
     };
     match finding::items_in(d, sequence) {
         Items::Empty => 2,
-        Items::One(item) => item_severity(k, d, syntax, item),
+        Items::One(item) => item_severity(b, d, syntax, item),
         Items::Several(_) => 1,
     }
 }
 
-fn reference_severity(k: Core, d: &[u8], syntax: Syntax) -> u8
-    ensures { λ r. ⌜ r ≡ worst (reference k (listingOf (now (d .entry)) syntax) (look (listingOf (now (d .entry)) syntax) 0x2010_0500)) ⌝ }
+fn reference_severity(b: &[u8], d: &[u8], syntax: Syntax, found: Found) -> u8
+    requires { ⌜ (recordsSize ≤ length (now b)) × (found ≡ look (listingOf (now d) syntax) 0x2010_0500) ⌝ }
+    ensures { λ r. ⌜ r ≡ worst (reference (coreIn (now (b .entry))) (listingOf (now (d .entry)) syntax) found) ⌝ }
 {
-    match finding::find(d, elements::data_scope(d, syntax), REFERENCE) {
+    match found {
         Found::Missing => 3,
         Found::Value(_) => 1,
-        Found::Sequence(inside) => sequence_severity(k, d, syntax, inside),
+        Found::Sequence(inside) => sequence_severity(b, d, syntax, inside),
     }
 }
 
 // Check 8 of a film on create.
-pub fn film_create_broken(k: Core, d: &[u8], syntax: Syntax) -> u16
-    ensures { λ r. ⌜ r ≡ firstBroken (attributeRules (filmCreateStandings k (listingOf (now (d .entry)) syntax))) ⌝ }
+pub fn film_create_broken(b: &[u8], d: &[u8], syntax: Syntax, found: [Found; 9]) -> u16
+    requires { ⌜ (recordsSize ≤ length (now b)) × FilmFound (listingOf (now d) syntax) found ⌝ }
+    ensures { λ r. ⌜ r ≡ firstBroken (attributeRules (filmCreateStandings (coreIn (now (b .entry))) (listingOf (now (d .entry)) syntax))) ⌝ }
 {
-    let mut worst = optional_film(d, syntax);
-    worst = standings::worse(reference_severity(k, d, syntax), worst);
-    worst = standings::worse(format_severity(d, syntax), worst);
+    let mut worst = optional_film(d, syntax, found);
+    worst = standings::worse(reference_severity(b, d, syntax, found[3]), worst);
+    worst = standings::worse(format_severity(d, found[0]), worst);
     standings::status_of(worst)
 }

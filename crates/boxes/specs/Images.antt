@@ -2,14 +2,11 @@
 use Prim.Native.Nat.{ℕ, _≤_}
 use mathlib.Core.Path.{_≡_}
 use mathlib.Core.List.{List}
-use lib.Dec.{eqb, leb}
 use lib.ListN.{length}
 use Rattle.headers.specs.declared.Syntax.{Syntax}
 use Rattle.rules.specs.declared.Image.{Image}
 use Rattle.rules.specs.declared.Image.the-variants.{Keeps, Erases, TooMany, Fills}
-use Rattle.rules.specs.Values.{noBytes, photometrics}
-use Rattle.rules.specs.Attributes.{Listing, Standing, listingOf, onlyItem, look, valueOf, mandatory, number, code, depthAllowed, pixelBytes, pixelLength, imageIn}
-use Rattle.standings.specs.Severity.{severity, worse}
+use Rattle.rules.specs.Attributes.{Listing, listingOf, onlyItem, valueOf, pixelBytes, imageIn}
 
 -- the item's list lies within so many bytes
 abbrev pub ImageWithin : ℕ → Image → Type 0
@@ -28,19 +25,3 @@ PixelsFit l Keeps = Unit {0}
 PixelsFit l Erases = Unit {0}
 PixelsFit l TooMany = Unit {0}
 PixelsFit l (Fills inside) = pixelBytes (onlyItem l inside) ≤ length (valueOf (onlyItem l inside) 0x7FE0_0010)
-
--- how Pixel Data stands
-unfoldable pub pixelStanding : Listing → Standing
-pixelStanding l = mandatory noBytes (λ v. eqb (length v) (pixelLength l)) l (look l 0x7FE0_0010)
-
--- the worst of these attributes and others
-unfoldable pub withExtents : Listing → ℕ → ℕ
-withExtents l others =
-    worse (severity (number (λ n. eqb n 1) l 0x0028_0002))
-    (worse (severity (code photometrics l 0x0028_0004))
-    (worse (severity (number (λ n. leb 1 n) l 0x0028_0010)) (worse (severity (number (λ n. leb 1 n) l 0x0028_0011)) others)))
-
-unfoldable pub withDepths : Listing → ℕ → ℕ
-withDepths l others =
-    worse (severity (number (λ n. depthAllowed l) l 0x0028_0100))
-    (worse (severity (number (λ n. depthAllowed l) l 0x0028_0101)) (worse (severity (number (λ n. depthAllowed l) l 0x0028_0102)) others))

@@ -1,7 +1,6 @@
 // Boxes: what a data set says for an image box on N-SET, check 8 and the values.
 use elements::Found;
 use elements::Items;
-use headers::Inside;
 use headers::Part;
 use headers::Scope;
 use headers::Syntax;
@@ -9,39 +8,132 @@ use rules::Image;
 use rules::ImageBox;
 use rules::Picture;
 ghost use mathlib.Core.Path.{_≡_};
-ghost use Prim.Native.Nat.{_<_, _≤_};
+ghost use Prim.Native.Nat.{_+_, _%_, _<_, _≤_};
 ghost use lib.Dec.{eqb, leb};
 ghost use lib.ListN.{length};
-ghost use Rattle.choice.specs.Pick.{both};
+ghost use Rattle.choice.specs.Pick.{both, either};
 ghost use Rattle.choice.specs.Rules.{firstBroken};
-ghost use Rattle.rules.specs.Values.{photometrics, polarities, blank, codeIn};
-ghost use Rattle.rules.specs.Attributes.{attributeRules, optional, number, code, listing, listingOf, look, valueOf, orKept, us, depth8, depthAllowed, pixelBytes, pixelLength, imageStandings, imageOf, sequenceStandings, boxStandings, pictureAfter, boxWith, isFill, itemPixels, pixels};
-ghost use Rattle.standings.specs.Severity.{kindOf, severity, severityBy, worst};
-ghost use Rattle.boxes.specs.Images.{ImageWithin, ImageRead, PixelsFit, pixelStanding, withExtents, withDepths};
+ghost use Rattle.rules.specs.Values.{photometrics, polarities, usIn};
+ghost use Rattle.rules.specs.Attributes.{attributeRules, listingOf, look, us, imageOf, boxStandings, pictureAfter, boxWith, isFill, pixels};
+ghost use Rattle.standings.specs.Severity.{kindOf, severityBy};
+ghost use Rattle.boxes.specs.Images.{ImageRead, ImageWithin, PixelsFit};
+ghost use Rattle.boxes.specs.Founds.{PlacedIn, ItemIn, ItemRead, BoxRead, valueIn, numberBy, codeBy, optionalCodeBy, keptCode, usAt, valueAt, depth8At, pixelBytesAt, lengthBy, withExtents, withDepths, imageWorst, sequenceWorst, itemPixelsAt};
 
-const SAMPLES: usize = 0x0028_0002;
+// The attributes of a box, as they are gathered.
+const OWN: [usize; 9] = [0x2020_0010, 0x2020_0020, 0x2020_0110, 0, 0, 0, 0, 0, 0];
 
-const PHOTOMETRIC: usize = 0x0028_0004;
+const POSITION: usize = 0;
 
-const ROWS: usize = 0x0028_0010;
+const POLARITY: usize = 1;
 
-const COLUMNS: usize = 0x0028_0011;
+const IMAGE_SEQUENCE: usize = 2;
 
-const ALLOCATED: usize = 0x0028_0100;
+// The attributes of an item of Image Sequence, as they are gathered.
+const ITEM: [usize; 9] = [
+    0x0028_0002,
+    0x0028_0004,
+    0x0028_0010,
+    0x0028_0011,
+    0x0028_0100,
+    0x0028_0101,
+    0x0028_0102,
+    0x0028_0103,
+    0x7FE0_0010,
+];
 
-const STORED: usize = 0x0028_0101;
+const SAMPLES: usize = 0;
 
-const HIGH_BIT: usize = 0x0028_0102;
+const PHOTOMETRIC: usize = 1;
 
-const REPRESENTATION: usize = 0x0028_0103;
+const ROWS: usize = 2;
 
-const POSITION: usize = 0x2020_0010;
+const COLUMNS: usize = 3;
 
-const POLARITY: usize = 0x2020_0020;
+const ALLOCATED: usize = 4;
 
-const IMAGE_SEQUENCE: usize = 0x2020_0110;
+const STORED: usize = 5;
 
-const PIXEL_DATA: usize = 0x7FE0_0010;
+const HIGH_BIT: usize = 6;
+
+const REPRESENTATION: usize = 7;
+
+const PIXEL_DATA: usize = 8;
+
+// What a data set holds for a box.
+pub struct BoxFound {
+    pub position: Found,
+    pub polarity: Found,
+    pub image: Image,
+}
+
+// What is gathered.
+
+fn image_of(items: Items) -> Image
+    ensures { λ r. ⌜ r ≡ imageOf items ⌝ }
+{
+    match items {
+        Items::Empty => Image::Erases,
+        Items::One(inside) => Image::Fills(inside),
+        Items::Several(_) => Image::TooMany,
+    }
+}
+
+fn image_in(d: &[u8], syntax: Syntax, sequence: Found) -> Image
+    requires { ⌜ sequence ≡ look (listingOf (now d) syntax) 0x2020_0110 ⌝ }
+    ensures { λ r. ⌜ ImageRead (now (d .entry)) syntax r ⌝ }
+{
+    match sequence {
+        Found::Missing => Image::Keeps,
+        Found::Value(_) => Image::TooMany,
+        Found::Sequence(inside) => image_of(finding::items_in(
+            d,
+            Scope {
+                syntax,
+                room: 3,
+                inside,
+            },
+        )),
+    }
+}
+
+// The only walk of the data set.
+pub fn gathered(d: &[u8], syntax: Syntax) -> BoxFound
+    ensures { λ r. ⌜ BoxRead (now (d .entry)) syntax r ⌝ }
+{
+    let own = finding::gathered(d, elements::data_scope(d, syntax), OWN, 3);
+    let position = own[POSITION];
+    let polarity = own[POLARITY];
+    let image = image_in(d, syntax, own[IMAGE_SEQUENCE]);
+    BoxFound {
+        position,
+        polarity,
+        image,
+    }
+}
+
+// The only walk of the item that fills the box; nothing where there is none.
+pub fn item_gathered(d: &[u8], syntax: Syntax, image: Image) -> [Found; 9]
+    requires { ⌜ ImageWithin (length (now d)) image ⌝ }
+    ensures { λ r. ⌜ ItemRead (now (d .entry)) syntax image r ⌝ }
+{
+    match image {
+        Image::Keeps => [Found::Missing; 9],
+        Image::Erases => [Found::Missing; 9],
+        Image::TooMany => [Found::Missing; 9],
+        Image::Fills(inside) => finding::gathered(
+            d,
+            Scope {
+                syntax,
+                room: 3,
+                inside,
+            },
+            ITEM,
+            9,
+        ),
+    }
+}
+
+// Numbers.
 
 // A number of two bytes as it was sent: how its attribute stands, how many bytes it has, and the number.
 struct Sent {
@@ -50,11 +142,11 @@ struct Sent {
     number: u16,
 }
 
-fn sent_at(d: &[u8], scope: Scope, tag: usize) -> Sent
-    requires { ⌜ (scope .inside .from ≤ scope .inside .stop) × (scope .inside .stop ≤ length (now d)) ⌝ }
-    ensures { λ r. ⌜ (r .kind ≡ kindOf (look (listing (now (d .entry)) scope) tag)) × (r .size ≡ length (valueOf (listing (now (d .entry)) scope) tag)) × (r .number ≡ us (listing (now (d .entry)) scope) tag) × (r .number < 65536) ⌝ }
+fn sent_at(d: &[u8], found: Found) -> Sent
+    requires { ⌜ PlacedIn (length (now d)) found ⌝ }
+    ensures { λ r. ⌜ (r .kind ≡ kindOf found) × (r .size ≡ length (valueIn (now (d .entry)) found)) × (r .number ≡ usIn (valueIn (now (d .entry)) found)) × (r .number < 65536) ⌝ }
 {
-    let at = standings::look(d, scope, tag);
+    let at = standings::seen(found);
     let place = at.value;
     let v = standings::value(d, place);
     Sent {
@@ -75,130 +167,134 @@ fn us_severity(n: Sent, allowed: bool) -> u8
 }
 
 // A mandatory number that is no other than this.
-fn exactly_severity(d: &[u8], scope: Scope, tag: usize, only: u16) -> u8
-    requires { ⌜ (scope .inside .from ≤ scope .inside .stop) × (scope .inside .stop ≤ length (now d)) ⌝ }
-    ensures { λ r. ⌜ r ≡ severity (number (λ n. eqb n only) (listing (now (d .entry)) scope) tag) ⌝ }
+fn exactly_severity(d: &[u8], found: Found, only: u16) -> u8
+    requires { ⌜ PlacedIn (length (now d)) found ⌝ }
+    ensures { λ r. ⌜ r ≡ numberBy (λ n. eqb n only) (now (d .entry)) found ⌝ }
 {
-    let n = sent_at(d, scope, tag);
+    let n = sent_at(d, found);
     us_severity(n, n.number == only)
 }
 
 // Rows and columns: from 1.
-fn extent_severity(d: &[u8], scope: Scope, tag: usize) -> u8
-    requires { ⌜ (scope .inside .from ≤ scope .inside .stop) × (scope .inside .stop ≤ length (now d)) ⌝ }
-    ensures { λ r. ⌜ r ≡ severity (number (λ n. leb 1 n) (listing (now (d .entry)) scope) tag) ⌝ }
+fn extent_severity(d: &[u8], found: Found) -> u8
+    requires { ⌜ PlacedIn (length (now d)) found ⌝ }
+    ensures { λ r. ⌜ r ≡ numberBy (λ n. leb 1 n) (now (d .entry)) found ⌝ }
 {
-    let n = sent_at(d, scope, tag);
+    let n = sent_at(d, found);
     us_severity(n, 1 <= n.number)
 }
 
-// Three numbers of an item are these.
-fn depth_is(d: &[u8], scope: Scope, allocated: u16, stored: u16, high: u16) -> bool
-    requires { ⌜ (scope .inside .from ≤ scope .inside .stop) × (scope .inside .stop ≤ length (now d)) ⌝ }
-    ensures { λ r. ⌜ r ≡ both (eqb (us (listing (now (d .entry)) scope) 0x0028_0100) allocated) (both (eqb (us (listing (now (d .entry)) scope) 0x0028_0101) stored) (eqb (us (listing (now (d .entry)) scope) 0x0028_0102) high)) ⌝ }
+// A number of a depth, which is allowed where all three are.
+fn depth_severity(d: &[u8], found: Found, allowed: bool) -> u8
+    requires { ⌜ PlacedIn (length (now d)) found ⌝ }
+    ensures { λ r. ⌜ r ≡ numberBy (λ n. allowed) (now (d .entry)) found ⌝ }
 {
-    if sent_at(d, scope, ALLOCATED).number != allocated {
-        return false;
-    }
-    if sent_at(d, scope, STORED).number != stored {
-        return false;
-    }
-    sent_at(d, scope, HIGH_BIT).number == high
+    us_severity(sent_at(d, found), allowed)
 }
 
-fn is_depth8(d: &[u8], scope: Scope) -> bool
-    requires { ⌜ (scope .inside .from ≤ scope .inside .stop) × (scope .inside .stop ≤ length (now d)) ⌝ }
-    ensures { λ r. ⌜ r ≡ depth8 (listing (now (d .entry)) scope) ⌝ }
+// The three numbers of a depth.
+struct Depth {
+    allocated: u16,
+    stored: u16,
+    high: u16,
+}
+
+fn depth_in(d: &[u8], item: [Found; 9]) -> Depth
+    requires { ⌜ ItemIn (length (now d)) item ⌝ }
+    ensures { λ r. ⌜ (r .allocated ≡ usAt (now (d .entry)) item 4) × (r .stored ≡ usAt (now (d .entry)) item 5) × (r .high ≡ usAt (now (d .entry)) item 6) ⌝ }
 {
-    depth_is(d, scope, 8, 8, 7)
+    let allocated = sent_at(d, item[ALLOCATED]).number;
+    let stored = sent_at(d, item[STORED]).number;
+    let high = sent_at(d, item[HIGH_BIT]).number;
+    Depth {
+        allocated,
+        stored,
+        high,
+    }
+}
+
+fn depth_is(depth: Depth, allocated: u16, stored: u16, high: u16) -> bool
+    ensures { λ r. ⌜ r ≡ both (eqb (depth .allocated) allocated) (both (eqb (depth .stored) stored) (eqb (depth .high) high)) ⌝ }
+{
+    if depth.allocated != allocated {
+        return false;
+    }
+    if depth.stored != stored {
+        return false;
+    }
+    depth.high == high
 }
 
 // 8,8,7 (`eight` says so) or 16,12,11
-fn depth_allowed(d: &[u8], scope: Scope, eight: bool) -> bool
-    requires { ⌜ (scope .inside .from ≤ scope .inside .stop) × (scope .inside .stop ≤ length (now d)) × (eight ≡ depth8 (listing (now d) scope)) ⌝ }
-    ensures { λ r. ⌜ r ≡ depthAllowed (listing (now (d .entry)) scope) ⌝ }
+fn depth_allowed(depth: Depth, eight: bool) -> bool
+    ensures { λ r. ⌜ r ≡ either eight (both (eqb (depth .allocated) 16) (both (eqb (depth .stored) 12) (eqb (depth .high) 11))) ⌝ }
 {
     if eight {
         return true;
     }
-    depth_is(d, scope, 16, 12, 11)
-}
-
-// A number of a depth, which is allowed where all three are.
-fn depth_severity(d: &[u8], scope: Scope, tag: usize, allowed: bool) -> u8
-    requires { ⌜ (scope .inside .from ≤ scope .inside .stop) × (scope .inside .stop ≤ length (now d)) × (allowed ≡ depthAllowed (listing (now d) scope)) ⌝ }
-    ensures { λ r. ⌜ r ≡ severity (number (λ n. depthAllowed (listing (now (d .entry)) scope)) (listing (now (d .entry)) scope) tag) ⌝ }
-{
-    us_severity(sent_at(d, scope, tag), allowed)
-}
-
-fn photometric_severity(d: &[u8], scope: Scope) -> u8
-    requires { ⌜ (scope .inside .from ≤ scope .inside .stop) × (scope .inside .stop ≤ length (now d)) ⌝ }
-    ensures { λ r. ⌜ r ≡ severity (code photometrics (listing (now (d .entry)) scope) 0x0028_0004) ⌝ }
-{
-    let at = standings::look(d, scope, PHOTOMETRIC);
-    let kind = at.kind;
-    let place = at.value;
-    let v = standings::value(d, place);
-    standings::severity(kind, texts::is_blank(v), values::photometric_in(v) < 2)
+    depth_is(depth, 16, 12, 11)
 }
 
 // "rows × columns × 1 or 2"
-fn pixel_bytes(d: &[u8], scope: Scope, eight: bool) -> usize
-    requires { ⌜ (scope .inside .from ≤ scope .inside .stop) × (scope .inside .stop ≤ length (now d)) × (eight ≡ depth8 (listing (now d) scope)) ⌝ }
-    ensures { λ r. ⌜ (r ≡ pixelBytes (listing (now (d .entry)) scope)) × (r < 8589934592) ⌝ }
+fn pixel_bytes(d: &[u8], item: [Found; 9], eight: bool) -> usize
+    requires { ⌜ ItemIn (length (now d)) item × (eight ≡ depth8At (now d) item) ⌝ }
+    ensures { λ r. ⌜ (r ≡ pixelBytesAt (now (d .entry)) item) × (r < 8589934592) ⌝ }
 {
-    let rows = sent_at(d, scope, ROWS).number as usize;
-    let columns = sent_at(d, scope, COLUMNS).number as usize;
+    let rows = sent_at(d, item[ROWS]).number as usize;
+    let columns = sent_at(d, item[COLUMNS]).number as usize;
     if eight {
         return rows * columns;
     }
     rows * columns * 2
 }
 
-// R-3: a byte of padding makes it even.
-fn pixel_length(d: &[u8], scope: Scope, eight: bool) -> usize
-    requires { ⌜ (scope .inside .from ≤ scope .inside .stop) × (scope .inside .stop ≤ length (now d)) × (eight ≡ depth8 (listing (now d) scope)) ⌝ }
-    ensures { λ r. ⌜ r ≡ pixelLength (listing (now (d .entry)) scope) ⌝ }
+// How the attributes of an item stand.
+
+fn photometric_severity(d: &[u8], found: Found) -> u8
+    requires { ⌜ PlacedIn (length (now d)) found ⌝ }
+    ensures { λ r. ⌜ r ≡ codeBy photometrics (now (d .entry)) found ⌝ }
 {
-    let bytes = pixel_bytes(d, scope, eight);
-    bytes + bytes % 2
+    let at = standings::seen(found);
+    let kind = at.kind;
+    let place = at.value;
+    let v = standings::value(d, place);
+    standings::severity(kind, texts::is_blank(v), values::photometric_in(v) < 2)
 }
 
-fn pixels_severity(d: &[u8], scope: Scope, eight: bool) -> u8
-    requires { ⌜ (scope .inside .from ≤ scope .inside .stop) × (scope .inside .stop ≤ length (now d)) × (eight ≡ depth8 (listing (now d) scope)) ⌝ }
-    ensures { λ r. ⌜ r ≡ severity (pixelStanding (listing (now (d .entry)) scope)) ⌝ }
+// Pixel Data, by the bytes of its pixels. R-3: a byte of padding makes it even.
+fn pixels_severity(d: &[u8], found: Found, bytes: usize) -> u8
+    requires { ⌜ PlacedIn (length (now d)) found × (bytes < 8589934592) ⌝ }
+    ensures { λ r. ⌜ r ≡ lengthBy (bytes + bytes % 2) (now (d .entry)) found ⌝ }
 {
-    let at = standings::look(d, scope, PIXEL_DATA);
+    let at = standings::seen(found);
     let kind = at.kind;
     let place = at.value;
     let size = standings::value(d, place).len();
-    let expected = pixel_length(d, scope, eight);
+    let expected = bytes + bytes % 2;
     standings::severity(kind, size == 0, size == expected)
 }
 
 // The worst of Samples, Photometric Interpretation, Rows, Columns and others.
-fn with_extents(d: &[u8], scope: Scope, others: u8) -> u8
-    requires { ⌜ (scope .inside .from ≤ scope .inside .stop) × (scope .inside .stop ≤ length (now d)) ⌝ }
-    ensures { λ r. ⌜ r ≡ withExtents (listing (now (d .entry)) scope) others ⌝ }
+fn with_extents(d: &[u8], item: [Found; 9], others: u8) -> u8
+    requires { ⌜ ItemIn (length (now d)) item ⌝ }
+    ensures { λ r. ⌜ r ≡ withExtents (now (d .entry)) item others ⌝ }
 {
-    let samples = exactly_severity(d, scope, SAMPLES, 1);
-    let photometric = photometric_severity(d, scope);
-    let rows = extent_severity(d, scope, ROWS);
-    let columns = extent_severity(d, scope, COLUMNS);
+    let samples = exactly_severity(d, item[SAMPLES], 1);
+    let photometric = photometric_severity(d, item[PHOTOMETRIC]);
+    let rows = extent_severity(d, item[ROWS]);
+    let columns = extent_severity(d, item[COLUMNS]);
     let extent = standings::worse(rows, standings::worse(columns, others));
     standings::worse(samples, standings::worse(photometric, extent))
 }
 
 // The worst of the three numbers of a depth and others.
-fn with_depths(d: &[u8], scope: Scope, eight: bool, others: u8) -> u8
-    requires { ⌜ (scope .inside .from ≤ scope .inside .stop) × (scope .inside .stop ≤ length (now d)) × (eight ≡ depth8 (listing (now d) scope)) ⌝ }
-    ensures { λ r. ⌜ r ≡ withDepths (listing (now (d .entry)) scope) others ⌝ }
+fn with_depths(d: &[u8], item: [Found; 9], allowed: bool, others: u8) -> u8
+    requires { ⌜ ItemIn (length (now d)) item ⌝ }
+    ensures { λ r. ⌜ r ≡ withDepths (now (d .entry)) item allowed others ⌝ }
 {
-    let allowed = depth_allowed(d, scope, eight);
-    let allocated = depth_severity(d, scope, ALLOCATED, allowed);
-    let stored = depth_severity(d, scope, STORED, allowed);
-    let high = depth_severity(d, scope, HIGH_BIT, allowed);
+    let allocated = depth_severity(d, item[ALLOCATED], allowed);
+    let stored = depth_severity(d, item[STORED], allowed);
+    let high = depth_severity(d, item[HIGH_BIT], allowed);
     standings::worse(
         allocated,
         standings::worse(stored, standings::worse(high, others)),
@@ -206,68 +302,38 @@ fn with_depths(d: &[u8], scope: Scope, eight: bool, others: u8) -> u8
 }
 
 // "All of an item is mandatory"
-fn image_worst(d: &[u8], scope: Scope) -> u8
-    requires { ⌜ (scope .inside .from ≤ scope .inside .stop) × (scope .inside .stop ≤ length (now d)) ⌝ }
-    ensures { λ r. ⌜ r ≡ worst (imageStandings (listing (now (d .entry)) scope)) ⌝ }
+fn image_worst(d: &[u8], item: [Found; 9]) -> u8
+    requires { ⌜ ItemIn (length (now d)) item ⌝ }
+    ensures { λ r. ⌜ r ≡ imageWorst (now (d .entry)) item ⌝ }
 {
-    let sign = exactly_severity(d, scope, REPRESENTATION, 0);
-    let eight = is_depth8(d, scope);
-    let data = pixels_severity(d, scope, eight);
-    let depths = with_depths(d, scope, eight, standings::worse(sign, data));
-    with_extents(d, scope, depths)
+    let depth = depth_in(d, item);
+    let eight = depth_is(depth, 8, 8, 7);
+    let bytes = pixel_bytes(d, item, eight);
+    let data = pixels_severity(d, item[PIXEL_DATA], bytes);
+    let sign = exactly_severity(d, item[REPRESENTATION], 0);
+    let allowed = depth_allowed(depth, eight);
+    let depths = with_depths(d, item, allowed, standings::worse(sign, data));
+    with_extents(d, item, depths)
 }
 
-fn image_of(items: Items) -> Image
-    ensures { λ r. ⌜ r ≡ imageOf items ⌝ }
-{
-    match items {
-        Items::Empty => Image::Erases,
-        Items::One(inside) => Image::Fills(inside),
-        Items::Several(_) => Image::TooMany,
-    }
-}
-
-pub fn image_in(d: &[u8], syntax: Syntax) -> Image
-    ensures { λ r. ⌜ ImageRead (now (d .entry)) syntax r ⌝ }
-{
-    match finding::find(d, elements::data_scope(d, syntax), IMAGE_SEQUENCE) {
-        Found::Missing => Image::Keeps,
-        Found::Value(_) => Image::TooMany,
-        Found::Sequence(inside) => image_of(finding::items_in(
-            d,
-            Scope {
-                syntax,
-                room: 3,
-                inside,
-            },
-        )),
-    }
-}
-
-fn sequence_worst(d: &[u8], syntax: Syntax, image: Image) -> u8
-    requires { ⌜ ImageWithin (length (now d)) image ⌝ }
-    ensures { λ r. ⌜ r ≡ worst (sequenceStandings (listingOf (now (d .entry)) syntax) image) ⌝ }
+fn sequence_worst(d: &[u8], image: Image, item: [Found; 9]) -> u8
+    requires { ⌜ ItemIn (length (now d)) item ⌝ }
+    ensures { λ r. ⌜ r ≡ sequenceWorst (now (d .entry)) image item ⌝ }
 {
     match image {
         Image::Keeps => 0,
         Image::Erases => 0,
         Image::TooMany => 1,
-        Image::Fills(inside) => image_worst(
-            d,
-            Scope {
-                syntax,
-                room: 3,
-                inside,
-            },
-        ),
+        Image::Fills(_) => image_worst(d, item),
     }
 }
 
 // "Position (2020,0010) US, mandatory in N-SET, 1 to C×R"
-fn position_severity(boxes: usize, d: &[u8], syntax: Syntax) -> u8
-    ensures { λ r. ⌜ r ≡ severity (number (λ n. both (leb 1 n) (leb n boxes)) (listingOf (now (d .entry)) syntax) 0x2020_0010) ⌝ }
+fn position_severity(boxes: usize, d: &[u8], found: Found) -> u8
+    requires { ⌜ PlacedIn (length (now d)) found ⌝ }
+    ensures { λ r. ⌜ r ≡ numberBy (λ n. both (leb 1 n) (leb n boxes)) (now (d .entry)) found ⌝ }
 {
-    let n = sent_at(d, elements::data_scope(d, syntax), POSITION);
+    let n = sent_at(d, found);
     let position = n.number as usize;
     if position < 1 {
         return us_severity(n, false);
@@ -275,25 +341,31 @@ fn position_severity(boxes: usize, d: &[u8], syntax: Syntax) -> u8
     us_severity(n, position <= boxes)
 }
 
-fn polarity_severity(d: &[u8], syntax: Syntax) -> u8
-    ensures { λ r. ⌜ r ≡ severity (optional (code polarities (listingOf (now (d .entry)) syntax) 0x2020_0020)) ⌝ }
+fn polarity_severity(d: &[u8], found: Found) -> u8
+    requires { ⌜ PlacedIn (length (now d)) found ⌝ }
+    ensures { λ r. ⌜ r ≡ optionalCodeBy polarities (now (d .entry)) found ⌝ }
 {
-    let at = standings::look(d, elements::data_scope(d, syntax), POLARITY);
+    let at = standings::seen(found);
     let kind = at.kind;
     let place = at.value;
     let v = standings::value(d, place);
     standings::optional_severity(kind, texts::is_blank(v), values::polarity_in(v) < 2)
 }
 
-pub fn box_broken(boxes: usize, d: &[u8], syntax: Syntax, image: Image) -> u16
-    requires { ⌜ ImageRead (now d) syntax image ⌝ }
+pub fn box_broken(boxes: usize, d: &[u8], syntax: Syntax, found: BoxFound, item: [Found; 9]) -> u16
+    requires { ⌜ BoxRead (now d) syntax found × ItemRead (now d) syntax (found .image) item ⌝ }
     ensures { λ r. ⌜ r ≡ firstBroken (attributeRules (boxStandings boxes (listingOf (now (d .entry)) syntax))) ⌝ }
 {
-    let position = position_severity(boxes, d, syntax);
-    let polarity = polarity_severity(d, syntax);
-    let sequence = sequence_worst(d, syntax, image);
+    let place = found.position;
+    let code = found.polarity;
+    let image = found.image;
+    let position = position_severity(boxes, d, place);
+    let polarity = polarity_severity(d, code);
+    let sequence = sequence_worst(d, image, item);
     standings::status_of(standings::worse(position, standings::worse(polarity, sequence)))
 }
+
+// What is stored.
 
 fn picture_after(next: u32, image: Image, old: u32) -> u32
     ensures { λ r. ⌜ r ≡ pictureAfter next image old ⌝ }
@@ -306,10 +378,11 @@ fn picture_after(next: u32, image: Image, old: u32) -> u32
     }
 }
 
-fn polarity_or(d: &[u8], syntax: Syntax, kept: u8) -> u8
-    ensures { λ r. ⌜ r ≡ orKept blank (listingOf (now (d .entry)) syntax) 0x2020_0020 (codeIn polarities) kept ⌝ }
+fn polarity_or(d: &[u8], found: Found, kept: u8) -> u8
+    requires { ⌜ PlacedIn (length (now d)) found ⌝ }
+    ensures { λ r. ⌜ r ≡ keptCode polarities (now (d .entry)) found kept ⌝ }
 {
-    let at = standings::look(d, elements::data_scope(d, syntax), POLARITY);
+    let at = standings::seen(found);
     let kind = at.kind;
     let place = at.value;
     let v = standings::value(d, place);
@@ -320,12 +393,15 @@ fn polarity_or(d: &[u8], syntax: Syntax, kept: u8) -> u8
 }
 
 // A box with what the data set gives, where `next` is the next picture number.
-pub fn box_with(next: u32, d: &[u8], syntax: Syntax, image: Image, b: ImageBox) -> ImageBox
-    requires { ⌜ (us (listingOf (now d) syntax) 0x2020_0010 < 256) × ImageRead (now d) syntax image ⌝ }
+pub fn box_with(next: u32, d: &[u8], syntax: Syntax, found: BoxFound, b: ImageBox) -> ImageBox
+    requires { ⌜ (us (listingOf (now d) syntax) 0x2020_0010 < 256) × BoxRead (now d) syntax found ⌝ }
     ensures { λ r. ⌜ r ≡ boxWith next (listingOf (now (d .entry)) syntax) b ⌝ }
 {
-    let position = sent_at(d, elements::data_scope(d, syntax), POSITION).number as u8;
-    let polarity = polarity_or(d, syntax, b.polarity);
+    let place = found.position;
+    let code = found.polarity;
+    let image = found.image;
+    let position = sent_at(d, place).number as u8;
+    let polarity = polarity_or(d, code, b.polarity);
     let old = b.picture;
     let picture = Picture(picture_after(next, image, old.0));
     ImageBox {
@@ -347,13 +423,14 @@ pub fn is_fill(image: Image) -> bool
 }
 
 // Where the pixels of an item lie, without the padding.
-fn item_pixels(d: &[u8], scope: Scope) -> Part
-    requires { ⌜ (scope .inside .from ≤ scope .inside .stop) × (scope .inside .stop ≤ length (now d)) × (pixelBytes (listing (now d) scope) ≤ length (valueOf (listing (now d) scope) 0x7FE0_0010)) ⌝ }
-    ensures { λ r. ⌜ (r ≡ itemPixels (listing (now (d .entry)) scope)) × (r .from ≤ r .stop) × (r .stop ≤ length (now (d .entry))) ⌝ }
+fn item_pixels(d: &[u8], item: [Found; 9]) -> Part
+    requires { ⌜ ItemIn (length (now d)) item × (pixelBytesAt (now d) item ≤ length (valueAt (now d) item 8)) ⌝ }
+    ensures { λ r. ⌜ (r ≡ itemPixelsAt (now (d .entry)) item) × (r .from ≤ r .stop) × (r .stop ≤ length (now (d .entry))) ⌝ }
 {
-    let eight = is_depth8(d, scope);
-    let bytes = pixel_bytes(d, scope, eight);
-    let at = standings::look(d, scope, PIXEL_DATA);
+    let depth = depth_in(d, item);
+    let eight = depth_is(depth, 8, 8, 7);
+    let bytes = pixel_bytes(d, item, eight);
+    let at = standings::seen(item[PIXEL_DATA]);
     let place = at.value;
     Part {
         from: place.from,
@@ -362,21 +439,14 @@ fn item_pixels(d: &[u8], scope: Scope) -> Part
 }
 
 // Where the pixels lie in the message buffer.
-pub fn pixels(d: &[u8], syntax: Syntax, image: Image) -> Part
-    requires { ⌜ ImageWithin (length (now d)) image × PixelsFit (listingOf (now d) syntax) image ⌝ }
+pub fn pixels(d: &[u8], syntax: Syntax, image: Image, item: [Found; 9]) -> Part
+    requires { ⌜ ItemRead (now d) syntax image item × PixelsFit (listingOf (now d) syntax) image ⌝ }
     ensures { λ r. ⌜ (r ≡ pixels (listingOf (now (d .entry)) syntax) image) × (r .from ≤ r .stop) × (r .stop ≤ length (now (d .entry))) ⌝ }
 {
     match image {
         Image::Keeps => Part { from: 0, stop: 0 },
         Image::Erases => Part { from: 0, stop: 0 },
         Image::TooMany => Part { from: 0, stop: 0 },
-        Image::Fills(inside) => item_pixels(
-            d,
-            Scope {
-                syntax,
-                room: 3,
-                inside,
-            },
-        ),
+        Image::Fills(_) => item_pixels(d, item),
     }
 }

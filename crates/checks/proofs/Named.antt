@@ -13,12 +13,14 @@ use Rattle.rules.specs.declared.Core.{Core}
 use Rattle.rules.specs.declared.Instance.{Instance}
 use Rattle.rules.specs.Records.{rootOf, named}
 use Rattle.rules.specs.Commands.{size, uidAt}
+use Rattle.records.specs.Places.{numbersIn, coreIn}
+use Rattle.records.proofs.Parts.{core-numbers}
 use Rattle.rules.specs.declared.Class.{Class}
 use Rattle.rules.specs.Checks.{classOf, isNobody, ofClass, createRules, targetRules}
 
-module _ (k : Core) (c : List ℕ) (sent : Part) where
+module _ (b c : List ℕ) (sent : Part) where
   abbrev AnswersSent : ℕ → Type 0
-  AnswersSent n = n ≡ firstBroken (createRules k c sent)
+  AnswersSent n = n ≡ firstBroken (createRules (coreIn b) c sent)
 
   pub none-sent : size sent ≡ 0 → AnswersSent 0
   unfolding createRules
@@ -29,19 +31,19 @@ module _ (k : Core) (c : List ℕ) (sent : Part) where
     unfolding createRules
     wrong-sent e = rw (ne-eqb _ _ some, ← told-uid, ← told-right, not-true right e)
 
-    module _ (is-right : bool.not right ≡ false) (rooted : Bool) (told-rooted : rooted ≡ beginsWith (rootOf (k .numbers)) uid) where
+    module _ (is-right : bool.not right ≡ false) (rooted : Bool) (told-rooted : rooted ≡ beginsWith (rootOf (numbersIn b)) uid) where
       pub rooted-sent : rooted ≡ true → AnswersSent 0x0117
       unfolding createRules
-      rooted-sent e = rw (ne-eqb _ _ some, ← told-uid, ← told-right, not-false right is-right, ← told-rooted, e)
+      rooted-sent e = rw (ne-eqb _ _ some, ← told-uid, ← told-right, not-false right is-right, core-numbers b, ← told-rooted, e)
 
-      module _ (free : rooted ≡ false) (whom : Instance) (told-whom : whom ≡ named k uid) (new : Bool) (told-new : new ≡ isNobody whom) where
+      module _ (free : rooted ≡ false) (whom : Instance) (told-whom : whom ≡ named (coreIn b) uid) (new : Bool) (told-new : new ≡ isNobody whom) where
         pub taken-sent : bool.not new ≡ true → AnswersSent 0x0111
         unfolding createRules
-        taken-sent e = rw (ne-eqb _ _ some, ← told-uid, ← told-right, not-false right is-right, ← told-rooted, free, ← told-whom, ← told-new, not-true new e)
+        taken-sent e = rw (ne-eqb _ _ some, ← told-uid, ← told-right, not-false right is-right, core-numbers b, ← told-rooted, free, ← told-whom, ← told-new, not-true new e)
 
         pub new-sent : bool.not new ≡ false → AnswersSent 0
         unfolding createRules
-        new-sent e = rw (ne-eqb _ _ some, ← told-uid, ← told-right, not-false right is-right, ← told-rooted, free, ← told-whom, ← told-new, not-false new e)
+        new-sent e = rw (ne-eqb _ _ some, ← told-uid, ← told-right, not-false right is-right, core-numbers b, ← told-rooted, free, ← told-whom, ← told-new, not-false new e)
 
 pub ruleset sent-by = (none-sent, wrong-sent, rooted-sent, taken-sent, new-sent)
 

@@ -3,17 +3,19 @@ use elements::Read;
 use headers::Part;
 use headers::Syntax;
 use rules::Class;
-use rules::Core;
 use rules::Instance;
 use rules::Operation;
 use strike::Came;
 ghost use mathlib.Core.Path.{_≡_};
 ghost use mathlib.Core.Bool.{true};
+ghost use Prim.Native.Nat.{_≤_};
 ghost use lib.ListN.{length};
 ghost use Rattle.choice.specs.Rules.{firstBroken};
 ghost use Rattle.rules.specs.declared.Class.the-variants.{Sessions, Films, Boxes};
 ghost use Rattle.rules.specs.Checks.{isUnknown, isTooLong, readingOf, isNobody, ofClass, generalRules, createRules, targetRules};
+ghost use Rattle.rules.specs.Layout.{recordsSize};
 ghost use Rattle.rules.specs.Sound.{coreSound};
+ghost use Rattle.records.specs.Places.{coreIn};
 ghost use Rattle.commands.specs.Within.{PartIn, OperationIn};
 
 fn is_nobody(whom: Instance) -> bool
@@ -28,9 +30,9 @@ fn is_nobody(whom: Instance) -> bool
 }
 
 // Check 6: the number of the rule that a UID sent with N-CREATE breaks, 0 where it breaks none.
-pub fn create_broken(k: Core, c: &[u8], sent: Part) -> u16
-    requires { ⌜ (coreSound k ≡ true) × PartIn (length (now c)) sent ⌝ }
-    ensures { λ r. ⌜ r ≡ firstBroken (createRules k (now (c .entry)) sent) ⌝ }
+pub fn create_broken(b: &[u8], c: &[u8], sent: Part) -> u16
+    requires { ⌜ (recordsSize ≤ length (now b)) × (coreSound (coreIn (now b)) ≡ true) × PartIn (length (now c)) sent ⌝ }
+    ensures { λ r. ⌜ r ≡ firstBroken (createRules (coreIn (now (b .entry))) (now (c .entry)) sent) ⌝ }
 {
     if sent.stop - sent.from == 0 {
         return 0;
@@ -39,11 +41,10 @@ pub fn create_broken(k: Core, c: &[u8], sent: Part) -> u16
     if !uids::is_uid(uid) {
         return 0x0117;
     }
-    let numbers = k.numbers;
-    if instances::is_rooted(numbers, uid) {
+    if instances::is_rooted(b, uid) {
         return 0x0117;
     }
-    if !is_nobody(instances::named(k, uid)) {
+    if !is_nobody(instances::named(b, uid)) {
         return 0x0111;
     }
     0
@@ -96,11 +97,11 @@ fn of_class(class: Class, whom: Instance) -> bool
 }
 
 // Check 6: the number of the rule that the instance asked for breaks, 0 where it breaks none.
-pub fn target_broken(k: Core, c: &[u8], class: Part, instance: Part) -> u16
-    requires { ⌜ (coreSound k ≡ true) × PartIn (length (now c)) class × PartIn (length (now c)) instance ⌝ }
-    ensures { λ r. ⌜ r ≡ firstBroken (targetRules k (now (c .entry)) class instance) ⌝ }
+pub fn target_broken(b: &[u8], c: &[u8], class: Part, instance: Part) -> u16
+    requires { ⌜ (recordsSize ≤ length (now b)) × (coreSound (coreIn (now b)) ≡ true) × PartIn (length (now c)) class × PartIn (length (now c)) instance ⌝ }
+    ensures { λ r. ⌜ r ≡ firstBroken (targetRules (coreIn (now (b .entry))) (now (c .entry)) class instance) ⌝ }
 {
-    let whom = instances::named(k, instances::uid_at(c, instance));
+    let whom = instances::named(b, instances::uid_at(c, instance));
     if is_nobody(whom) {
         return 0x0112;
     }

@@ -26,23 +26,14 @@ filled-append limit c bytes h =
     let e : limit - length c - length bytes ≡ limit - (length c + length bytes) = omega arith in
     rw (take-append-seam c (replicate (limit - length c) 0), drop-append-add c (replicate (limit - length c) 0) (length bytes), drop-replicate (length bytes) (limit - length c) (omega arith), append-assoc c bytes, length-append c bytes, e)
 
--- a command with a fragment's bytes behind it
-pub gathered-held : (c bytes before all : List ℕ) (used : ℕ) → used ≡ length c → before ≡ filledTo 1024 0 c → all ≡ laid before used bytes → length c + length bytes ≤ 1024
-    → _≡_ {A = Input} (record { phase = 1; used = used + length bytes; got = 0; command = all }) (held 1 (c ++ bytes) 0)
-gathered-held c bytes before all used u b e h = rw (e, b, u, filled-append 1024 c bytes h, length-append c bytes)
-
--- the length of a command that is filled, and how many of its bytes are used
-filled : (used : ℕ) (command : List ℕ) → used ≤ 1024 → command ≡ filledTo 1024 0 (take used command) → (length command ≡ 1024) × (used ≡ length (take used command))
+-- how many bytes of a command that is filled are used
+filled : (used : ℕ) (command : List ℕ) → used ≤ 1024 → command ≡ filledTo 1024 0 (take used command) → used ≡ length (take used command)
 filled used command h e =
     let l = simp (length-append, length-replicate) at (ap length e) in
-    (omega (arith, length-take used command), omega (arith, length-take used command))
+    omega (arith, length-take used command)
 
-module _ (i : Input) (h : Filled i) where
-  pub filled-size : length (i .command) ≡ 1024
-  filled-size = filled (i .used) (i .command) (h .0) (h .1) .0
-
-  pub used-length : i .used ≡ length (commandHeld i)
-  used-length = filled (i .used) (i .command) (h .0) (h .1) .1
+pub used-length : (i : Input) → Filled i → i .used ≡ length (commandHeld i)
+used-length i h = filled (i .used) (i .command) (h .0) (h .1)
 
 pub held-back : (c : List ℕ) → take (length c) (filledTo 1024 0 c) ≡ c
 held-back c = take-append-seam c (replicate (1024 - length c) 0)

@@ -2,4 +2,6 @@
 mod Headers
 mod Filled
 mod Outcomes
+mod Written
+mod Held
 pub mod Meant

@@ -6,7 +6,8 @@ use mathlib.Core.Bool.{Bool, true, false}
 use mathlib.Core.List.{List, [], _++_}
 use lib.Dec.{eqb, leb}
 use lib.ListN.{length, take, drop, length-append}
-use borrow.Author.Tests.{leb-true, le-leb, lt-leb}
+use native.Mathlib.Omega.{arith}
+use borrow.Author.Tests.{leb-true, le-leb, lt-leb, eq-eqb, ne-eqb}
 use lib.Seq.{length-take-le}
 use Rattle.choice.specs.Pick.{pick}
 use Rattle.choice.proofs.Picks.{clash}
@@ -24,12 +25,13 @@ use Rattle.rules.specs.Sound.{readable}
 use Rattle.rules.specs.Lists.{filledTo}
 use Rattle.rules.specs.Calls.{readingOf, reading}
 use Rattle.rules.specs.Records.{commandHeld}
-use Rattle.rules.specs.Outcomes.{inputIn, inputHeld}
+use Rattle.rules.specs.Outcomes.{held, inputIn, inputHeld}
 use Rattle.collecting.specs.declared.Collecting.{Collecting}
 use Rattle.collecting.specs.declared.Collecting.the-variants.{Idle, InCommand, SkippingCommand, InData, SkippingData}
 use Rattle.collecting.specs.declared.Answer.{Answer}
+use Rattle.collecting.specs.declared.Answer.the-variants.{Wait}
 use Rattle.collecting.proofs.Filled.{used-length}
-use Rattle.collecting.specs.Collecting.{ofCommand, isLast, fragmentOf, Filled, storedIn, readTo, stateOf, gathersTo, storesTo, commandNext, dataNext, commandBefore, holds, kept, collectedOf, dataAnswer, inputBy, byNext, gatheredIn}
+use Rattle.collecting.specs.Collecting.{waitsWith, bare, ofCommand, isLast, fragmentOf, Filled, storedIn, readTo, stateOf, gathersTo, storesTo, commandNext, dataNext, commandBefore, holds, kept, collectedOf, dataAnswer, inputBy, byNext, gatheredIn}
 
 -- What a whole command says.
 
@@ -137,6 +139,21 @@ holds-kept answer state i got c e f = rw (e, f)
 
 pub holds-filled : (answer : Answer) (state : Collecting) (i : Input) (got : ℕ) → Filled i → holds answer state i got ≡ kept answer state (commandHeld i) got
 holds-filled answer state i got h = holds-kept answer state i got (commandHeld i) (used-length i h) (h .1)
+
+-- the command that a command fragment is appended to
+
+module _ (i : Input) where
+  pub before-held : Filled i → i .phase ≡ 1 → holds Wait InCommand i 0 ≡ waitsWith (held 1 (commandBefore i) 0)
+  before-held h e = holds-filled Wait InCommand i 0 h ∙ rw (eq-eqb (i .phase) 1 e)
+
+  pub before-used : Filled i → (n : ℕ) → i .phase ≡ 1 → n ≡ i .used → (n ≡ length (commandBefore i)) × (n ≤ 1024)
+  before-used h n e d = (d ∙ rw (eq-eqb (i .phase) 1 e) (used-length i h), omega (arith, d, h .0))
+
+  pub before-none : (i .phase ≡ 1 → ⊥) → bare Wait InCommand ≡ waitsWith (held 1 (commandBefore i) 0)
+  before-none e = rw (ne-eqb (i .phase) 1 e)
+
+  pub before-unused : (i .phase ≡ 1 → ⊥) → 0 ≡ length (commandBefore i)
+  before-unused e = rw (ne-eqb (i .phase) 1 e)
 
 pub overflows-kept : (c : List ℕ) (last : Bool) → collectedOf (overflows c last) ≡ kept (dataAnswer last TooLong) (storesTo false last) c 0
 unfolding collectedOf overflows inputHeld

@@ -15,14 +15,36 @@ use Rattle.strike.specs.Machine.{commandLimit, idle, inData, skippingData, Frag
 use Rattle.octets.specs.Octets.{laid}
 use Rattle.rules.specs.Lists.{filledTo}
 use Rattle.rules.specs.declared.Input.{Input}
+use Rattle.fields.specs.Format.{write}
 use Rattle.rules.specs.Calls.{reading}
+use Rattle.rules.specs.Layout.{inputFormat, coreSize}
 use Rattle.rules.specs.Records.{commandHeld}
 use Rattle.rules.specs.Outcomes.{held, inputIn, inputHeld}
+use Rattle.records.specs.Places.{heldIn}
 use Rattle.collecting.specs.declared.Collecting.{Collecting}
 use Rattle.collecting.specs.declared.Collecting.the-variants.{Idle, InCommand, SkippingCommand, InData, SkippingData}
 use Rattle.collecting.specs.declared.Answer.{Answer}
 use Rattle.collecting.specs.declared.Answer.the-variants.{Ignored, Wait, Dropped, Asks}
-use Rattle.collecting.specs.declared.Collected.{Collected}
+
+-- what a fragment comes to, and what is held afterwards; of a request its command, and how many bytes of data there are
+pub record Collected : Type 0 where
+  pub answer : Answer
+  pub input : Input
+
+-- the command is within its 1,024 bytes, and the rest of them are zeros
+abbrev pub Filled : Input → Type 0
+Filled i = (i .used ≤ commandLimit) × (i .command ≡ filledTo commandLimit 0 (commandHeld i))
+
+-- the records' bytes with another input, which is read there again
+pub record Put (i : Input) (before after : List ℕ) : Type 0 where
+  pub bytes : after ≡ write inputFormat i before coreSize
+  pub back : heldIn after ≡ i
+  pub filled : Filled i
+
+-- the answer, and the records' bytes before and afterwards
+pub record Met (x : Collected) (answer : Answer) (before after : List ℕ) : Type 0 where
+  pub told : answer ≡ x .answer
+  pub put : Put (x .input) before after
 
 -- the state that a number of the records stands for, and its number
 unfoldable pub stateOf : ℕ → Collecting
@@ -68,10 +90,6 @@ holds answer state i got = record { answer = answer; input = record { phase = nu
 -- the same, of a command's bytes
 abbrev pub kept : Answer → Collecting → List ℕ → ℕ → Collected
 kept answer state c got = record { answer = answer; input = held (numberOf state) c got }
-
--- the command is within its 1,024 bytes, and the rest of them are zeros
-abbrev pub Filled : Input → Type 0
-Filled i = (i .used ≤ commandLimit) × (i .command ≡ filledTo commandLimit 0 (commandHeld i))
 
 -- nothing is held
 abbrev pub bare : Answer → Collecting → Collected

@@ -1,6 +1,9 @@
 // Collecting: a fragment's header, and what a fragment comes to, held to the book.
+use records::AT_COMMAND;
+use records::AT_GOT;
+use records::AT_INPUT;
+use records::AT_USED;
 use rules::Command;
-use rules::Input;
 use strike::Came;
 use strike::Reading;
 ghost use mathlib.Core.Path.{_≡_};
@@ -8,15 +11,14 @@ ghost use Prim.Native.Nat.{_+_, _≤_, _<_};
 ghost use mathlib.Core.List.{_++_};
 ghost use lib.Dec.{leb};
 ghost use lib.ListN.{length, take};
-ghost use Rattle.octets.specs.Octets.{laid};
 ghost use Rattle.strike.specs.Machine.{headerWrong, collect, laidBy, reads, stores, overflows, dataset};
-ghost use Rattle.rules.specs.Lists.{filledTo};
-ghost use Rattle.rules.specs.Commands.{understood};
 ghost use Rattle.rules.specs.Sound.{readable};
 ghost use Rattle.rules.specs.Calls.{reading};
+ghost use Rattle.rules.specs.Layout.{recordsSize};
 ghost use Rattle.rules.specs.Records.{commandHeld};
 ghost use Rattle.rules.specs.Outcomes.{held, inputIn};
-ghost use Rattle.collecting.specs.Collecting.{Filled, storedIn, waitsWith, stateOf, numberOf, gathersTo, storesTo, commandNext, dataNext, commandBefore, bare, holds, dataAnswer, collectedOf, ofCommand, isLast, fragmentOf, gatheredIn};
+ghost use Rattle.records.specs.Places.{heldIn};
+ghost use Rattle.collecting.specs.Collecting.{Filled, Met, storedIn, waitsWith, stateOf, numberOf, gathersTo, storesTo, commandNext, dataNext, commandBefore, bare, holds, dataAnswer, collectedOf, ofCommand, isLast, fragmentOf, gatheredIn};
 
 // "One message is collected through idle, in command, skipping command, in data and skipping data."
 pub enum Collecting {
@@ -33,12 +35,6 @@ pub enum Answer {
     Wait,
     Dropped,
     Asks(Came),
-}
-
-// The answer, and what is held afterwards; of a request its command, and how many bytes of data there are.
-pub struct Collected {
-    pub answer: Answer,
-    pub input: Input,
 }
 
 impl Collecting {
@@ -129,89 +125,97 @@ fn stores_to(fits: bool, last: bool) -> Collecting
     }
 }
 
+// The input, where it lies in the records.
+
+fn phase(b: &[u8]) -> u8
+    requires { ⌜ recordsSize ≤ length (now b) ⌝ }
+    ensures { λ r. ⌜ r ≡ heldIn (now (b .entry)) .phase ⌝ }
+{
+    b[AT_INPUT]
+}
+
+fn used(b: &[u8]) -> usize
+    requires { ⌜ recordsSize ≤ length (now b) ⌝ }
+    ensures { λ r. ⌜ (r ≡ heldIn (now (b .entry)) .used) × (r < 65536) ⌝ }
+{
+    octets::u16_at(b, AT_USED)
+}
+
+// How many bytes of data the message buffer has.
+pub fn got(b: &[u8]) -> usize
+    requires { ⌜ recordsSize ≤ length (now b) ⌝ }
+    ensures { λ r. ⌜ (r ≡ heldIn (now (b .entry)) .got) × (r < 4294967296) ⌝ }
+{
+    octets::u32_at(b, AT_GOT)
+}
+
+// The command so far, or all of it.
+pub fn command_held(b: &[u8]) -> &[u8]
+    requires { ⌜ (recordsSize ≤ length (now b)) × Filled (heldIn (now b)) ⌝ }
+    ensures { λ r. ⌜ now r ≡ commandHeld (heldIn (now (b .entry))) ⌝ }
+{
+    let stop = AT_COMMAND + used(b);
+    &b[AT_COMMAND..stop]
+}
+
 // Nothing is held.
-fn nothing(answer: Answer, state: Collecting) -> Collected
-    ensures { λ r. ⌜ r ≡ bare answer state ⌝ }
+fn nothing(b: &mut [u8], answer: Answer, state: Collecting) -> Answer
+    requires { ⌜ recordsSize ≤ length (now b) ⌝ }
+    ensures { λ r. ⌜ Met (bare answer state) r (now (b .entry)) (now (b .exit)) ⌝ }
 {
-    Collected {
-        answer,
-        input: Input {
-            phase: state.number(),
-            used: 0,
-            got: 0,
-            command: [0; 1024],
-        },
-    }
+    opening::put_no_input(b);
+    fields::put_byte(b, AT_INPUT, state.number());
+    answer
 }
 
-// The command that a command fragment is appended to, and its length: a new message starts with none.
-fn command_before(i: Input) -> [u8; 1024]
-    requires { ⌜ Filled i ⌝ }
-    ensures { λ r. ⌜ r ≡ filledTo 1024 0 (commandBefore i) ⌝ }
+// The command stays: of a message whose command is whole, or that goes on.
+fn holding(b: &mut [u8], answer: Answer, state: Collecting, got: usize) -> Answer
+    requires { ⌜ (recordsSize ≤ length (now b)) × Filled (heldIn (now b)) × (got < 4294967296) ⌝ }
+    ensures { λ r. ⌜ Met (holds answer state (heldIn (now (b .entry))) got) r (now (b .entry)) (now (b .exit)) ⌝ }
 {
-    if i.phase == 1 {
-        return i.command;
-    }
-    [0; 1024]
+    fields::put_byte(b, AT_INPUT, state.number());
+    fields::put_number(b, AT_GOT, 4, got as u64);
+    answer
 }
 
-fn used_before(i: Input) -> usize
-    requires { ⌜ Filled i ⌝ }
-    ensures { λ r. ⌜ (r ≡ length (commandBefore i)) × (r ≤ 1024) ⌝ }
+// In command; a new message starts with no command.
+fn begun(b: &mut [u8]) -> Answer
+    requires { ⌜ (recordsSize ≤ length (now b)) × Filled (heldIn (now b)) ⌝ }
+    ensures { λ r. ⌜ Met (waitsWith (held 1 (commandBefore (heldIn (now (b .entry)))) 0)) r (now (b .entry)) (now (b .exit)) ⌝ }
 {
-    if i.phase == 1 {
-        return i.used as usize;
+    if phase(b) == 1 {
+        return holding(b, Answer::Wait, Collecting::InCommand, 0);
+    }
+    nothing(b, Answer::Wait, Collecting::InCommand)
+}
+
+// How much of a command a fragment is appended to: a new message starts with none.
+fn used_before(b: &[u8]) -> usize
+    requires { ⌜ (recordsSize ≤ length (now b)) × Filled (heldIn (now b)) ⌝ }
+    ensures { λ r. ⌜ (r ≡ length (commandBefore (heldIn (now (b .entry))))) × (r ≤ 1024) ⌝ }
+{
+    if phase(b) == 1 {
+        return used(b);
     }
     0
 }
 
-// A command with a fragment's bytes behind its own.
-fn appended(command: [u8; 1024], used: usize, bytes: &[u8]) -> [u8; 1024]
-    requires { ⌜ used + length (now bytes) ≤ 1024 ⌝ }
-    ensures { λ r. ⌜ r ≡ laid command used (now (bytes .entry)) ⌝ }
+// The command so far, in command, with a fragment's bytes behind its own.
+fn gathered(b: &mut [u8], bytes: &[u8]) -> Answer
+    requires { ⌜ (recordsSize ≤ length (now b)) × Filled (heldIn (now b)) × (length (commandBefore (heldIn (now b))) + length (now bytes) ≤ 1024) ⌝ }
+    ensures { λ r. ⌜ Met (waitsWith (held 1 (commandBefore (heldIn (now (b .entry))) ++ now (bytes .entry)) 0)) r (now (b .entry)) (now (b .exit)) ⌝ }
 {
-    let mut all = command;
-    octets::put(&mut all, used, bytes);
-    all
+    let used = used_before(b);
+    let answer = begun(b);
+    octets::put(b, AT_COMMAND + used, bytes);
+    fields::put_number(b, AT_USED, 2, (used + bytes.len()) as u64);
+    answer
 }
 
-// The command so far, in command.
-fn gathered(i: Input, bytes: &[u8]) -> Input
-    requires { ⌜ Filled i × (length (commandBefore i) + length (now bytes) ≤ 1024) ⌝ }
-    ensures { λ r. ⌜ r ≡ held 1 (commandBefore i ++ now (bytes .entry)) 0 ⌝ }
+fn readable(command: Command) -> bool
+    ensures { λ r. ⌜ r ≡ readable command ⌝ }
 {
-    let used = used_before(i);
-    let command = appended(command_before(i), used, bytes);
-    Input {
-        phase: 1,
-        used: (used + bytes.len()) as u16,
-        got: 0,
-        command,
-    }
-}
-
-// What is held of a message whose command is whole.
-fn holding(answer: Answer, state: Collecting, i: Input, got: usize) -> Collected
-    requires { ⌜ got < 4294967296 ⌝ }
-    ensures { λ r. ⌜ r ≡ holds answer state i got ⌝ }
-{
-    let command = i.command;
-    Collected {
-        answer,
-        input: Input {
-            phase: state.number(),
-            used: i.used,
-            got: got as u32,
-            command,
-        },
-    }
-}
-
-// Whether a whole command can be read.
-fn readable(c: &[u8]) -> bool
-    ensures { λ r. ⌜ r ≡ readable (understood (now (c .entry))) ⌝ }
-{
-    match commands::understood(c) {
+    match command {
         Command::Unreadable => false,
         Command::Unknown {
             message: _,
@@ -225,63 +229,57 @@ fn readable(c: &[u8]) -> bool
 fn read_as(c: &[u8]) -> Reading
     ensures { λ r. ⌜ r ≡ reading (now (c .entry)) ⌝ }
 {
-    if !readable(c) {
+    let said = commands::said(c);
+    let command = said.command;
+    if !readable(command) {
         return Reading::NotReadable;
     }
-    if commands::has_data(c) {
+    if said.with_data {
         return Reading::WithData;
     }
     Reading::Alone
 }
 
 // "an unreadable command is dropped, idle. Without data set the request is done at once; else in data."
-fn read(i: Input) -> Collected
-    requires { ⌜ Filled i ⌝ }
-    ensures { λ r. ⌜ r ≡ collectedOf (reads (reading (commandHeld i)) (commandHeld i)) ⌝ }
+fn read(b: &mut [u8]) -> Answer
+    requires { ⌜ (recordsSize ≤ length (now b)) × Filled (heldIn (now b)) ⌝ }
+    ensures { λ r. ⌜ Met (collectedOf (reads (reading (commandHeld (heldIn (now (b .entry))))) (commandHeld (heldIn (now (b .entry)))))) r (now (b .entry)) (now (b .exit)) ⌝ }
 {
-    let used = i.used as usize;
-    let command = i.command;
-    let reads = read_as(&command[0..used]);
+    let reads = read_as(command_held(b));
     match reads {
-        Reading::NotReadable => nothing(Answer::Dropped, Collecting::Idle),
-        Reading::Alone => holding(Answer::Asks(Came::Absent), Collecting::Idle, i, 0),
-        Reading::WithData => holding(Answer::Wait, Collecting::InData, i, 0),
+        Reading::NotReadable => nothing(b, Answer::Dropped, Collecting::Idle),
+        Reading::Alone => holding(b, Answer::Asks(Came::Absent), Collecting::Idle, 0),
+        Reading::WithData => holding(b, Answer::Wait, Collecting::InData, 0),
     }
 }
 
 // The next state by n bytes of a command; they are measured before any is copied.
-fn command_next(i: Input, n: usize, last: bool) -> Collecting
-    requires { ⌜ Filled i ⌝ }
-    ensures { λ r. ⌜ r ≡ commandNext (stateOf (i .phase)) (leb (length (commandBefore i) + n) 1024) last ⌝ }
+fn command_next(b: &[u8], n: usize, last: bool) -> Collecting
+    requires { ⌜ (recordsSize ≤ length (now b)) × Filled (heldIn (now b)) ⌝ }
+    ensures { λ r. ⌜ r ≡ commandNext (stateOf (heldIn (now (b .entry)) .phase)) (leb (length (commandBefore (heldIn (now (b .entry)))) + n) 1024) last ⌝ }
 {
-    let state = Collecting::of(i.phase);
-    if 1024 - used_before(i) < n {
+    let state = Collecting::of(phase(b));
+    if 1024 - used_before(b) < n {
         return state.after_command(false, last);
     }
     state.after_command(true, last)
 }
 
 // A command fragment: what it comes to, by the next state; none leads to skipping data.
-fn by_command(i: Input, bytes: &[u8], last: bool) -> Collected
-    requires { ⌜ Filled i ⌝ }
-    ensures { λ r. ⌜ r ≡ collectedOf (gatheredIn (stateOf (i .phase)) (commandBefore i ++ now (bytes .entry)) last) ⌝ }
+fn by_command(b: &mut [u8], bytes: &[u8], last: bool) -> Answer
+    requires { ⌜ (recordsSize ≤ length (now b)) × Filled (heldIn (now b)) ⌝ }
+    ensures { λ r. ⌜ Met (collectedOf (gatheredIn (stateOf (heldIn (now (b .entry)) .phase)) (commandBefore (heldIn (now (b .entry))) ++ now (bytes .entry)) last)) r (now (b .entry)) (now (b .exit)) ⌝ }
 {
-    let next = command_next(i, bytes.len(), last);
+    let next = command_next(b, bytes.len(), last);
     match next {
-        Collecting::Idle => nothing(Answer::Dropped, Collecting::Idle),
-        Collecting::InCommand => waiting(gathered(i, bytes)),
-        Collecting::SkippingCommand => nothing(Answer::Wait, Collecting::SkippingCommand),
-        Collecting::InData => read(gathered(i, bytes)),
-        Collecting::SkippingData => nothing(Answer::Dropped, Collecting::Idle),
-    }
-}
-
-fn waiting(input: Input) -> Collected
-    ensures { λ r. ⌜ r ≡ waitsWith input ⌝ }
-{
-    Collected {
-        answer: Answer::Wait,
-        input,
+        Collecting::Idle => nothing(b, Answer::Dropped, Collecting::Idle),
+        Collecting::InCommand => gathered(b, bytes),
+        Collecting::SkippingCommand => nothing(b, Answer::Wait, Collecting::SkippingCommand),
+        Collecting::InData => {
+            gathered(b, bytes);
+            read(b)
+        }
+        Collecting::SkippingData => nothing(b, Answer::Dropped, Collecting::Idle),
     }
 }
 
@@ -296,40 +294,45 @@ fn data_answer(last: bool, came: Came) -> Answer
 }
 
 // "all is skipped to the last one, then answered"
-fn overflowed(i: Input, last: bool) -> Collected
-    requires { ⌜ Filled i ⌝ }
-    ensures { λ r. ⌜ r ≡ collectedOf (overflows (commandHeld i) last) ⌝ }
+fn overflowed(b: &mut [u8], last: bool) -> Answer
+    requires { ⌜ (recordsSize ≤ length (now b)) × Filled (heldIn (now b)) ⌝ }
+    ensures { λ r. ⌜ Met (collectedOf (overflows (commandHeld (heldIn (now (b .entry)))) last)) r (now (b .entry)) (now (b .exit)) ⌝ }
 {
     let next = Collecting::SkippingData.after_data(false, last);
-    holding(data_answer(last, Came::TooLong), next, i, 0)
+    holding(b, data_answer(last, Came::TooLong), next, 0)
 }
 
 // A data fragment in data: its bytes are measured before any is copied.
-fn stored(i: Input, message: &mut [u8], bytes: &[u8], last: bool) -> Collected
-    requires { ⌜ Filled i × (i .got ≤ length (now message)) × (length (now message) < 4294967296) ⌝ }
-    ensures { λ r. ⌜ (r ≡ collectedOf (stores (length (now (message .entry))) (commandHeld i) (take (i .got) (now (message .entry)) ++ now (bytes .entry)) last)) × (now (message .exit) ≡ storedIn (i .got) (now (message .entry)) (now (bytes .entry))) ⌝ }
+fn stored(b: &mut [u8], message: &mut [u8], bytes: &[u8], last: bool) -> Answer
+    requires { ⌜ (recordsSize ≤ length (now b)) × Filled (heldIn (now b)) × (heldIn (now b) .got ≤ length (now message)) × (length (now message) < 4294967296) ⌝ }
+    ensures { λ r. ⌜ Met (collectedOf (stores (length (now (message .entry))) (commandHeld (heldIn (now (b .entry)))) (take (heldIn (now (b .entry)) .got) (now (message .entry)) ++ now (bytes .entry)) last)) r (now (b .entry)) (now (b .exit)) × (now (message .exit) ≡ storedIn (heldIn (now (b .entry)) .got) (now (message .entry)) (now (bytes .entry))) ⌝ }
 {
-    let got = i.got as usize;
-    if message.len() - got < bytes.len() {
-        return overflowed(i, last);
+    let before = got(b);
+    if message.len() - before < bytes.len() {
+        return overflowed(b, last);
     }
-    octets::put(message, got, bytes);
+    octets::put(message, before, bytes);
     let next = Collecting::InData.after_data(true, last);
-    holding(data_answer(last, Came::Whole), next, i, got + bytes.len())
+    holding(
+        b,
+        data_answer(last, Came::Whole),
+        next,
+        before + bytes.len(),
+    )
 }
 
 // A data fragment: what it comes to, by the state that it is met in.
-fn by_data(i: Input, message: &mut [u8], bytes: &[u8], last: bool) -> Collected
-    requires { ⌜ Filled i × (i .got ≤ length (now message)) × (length (now message) < 4294967296) ⌝ }
-    ensures { λ r. ⌜ (r ≡ collectedOf (collect reading (length (now (message .entry))) (inputIn i (now (message .entry))) (dataset last (now (bytes .entry))))) × (now (message .exit) ≡ laidBy (length (now (message .entry))) (inputIn i (now (message .entry))) (dataset last (now (bytes .entry))) (now (message .entry))) ⌝ }
+fn by_data(b: &mut [u8], message: &mut [u8], bytes: &[u8], last: bool) -> Answer
+    requires { ⌜ (recordsSize ≤ length (now b)) × Filled (heldIn (now b)) × (heldIn (now b) .got ≤ length (now message)) × (length (now message) < 4294967296) ⌝ }
+    ensures { λ r. ⌜ Met (collectedOf (collect reading (length (now (message .entry))) (inputIn (heldIn (now (b .entry))) (now (message .entry))) (dataset last (now (bytes .entry))))) r (now (b .entry)) (now (b .exit)) × (now (message .exit) ≡ laidBy (length (now (message .entry))) (inputIn (heldIn (now (b .entry))) (now (message .entry))) (dataset last (now (bytes .entry))) (now (message .entry))) ⌝ }
 {
-    let state = Collecting::of(i.phase);
+    let state = Collecting::of(phase(b));
     match state {
-        Collecting::Idle => nothing(Answer::Ignored, Collecting::Idle),
-        Collecting::InCommand => nothing(Answer::Dropped, Collecting::Idle),
-        Collecting::SkippingCommand => nothing(Answer::Dropped, Collecting::Idle),
-        Collecting::InData => stored(i, message, bytes, last),
-        Collecting::SkippingData => overflowed(i, last),
+        Collecting::Idle => nothing(b, Answer::Ignored, Collecting::Idle),
+        Collecting::InCommand => nothing(b, Answer::Dropped, Collecting::Idle),
+        Collecting::SkippingCommand => nothing(b, Answer::Dropped, Collecting::Idle),
+        Collecting::InData => stored(b, message, bytes, last),
+        Collecting::SkippingData => overflowed(b, last),
     }
 }
 
@@ -371,15 +374,15 @@ fn is_last(fragment: &[u8]) -> bool
     fragment[5] / 2 % 2 == 1
 }
 
-// A fragment whose header is not wrong: what it comes to, and its data in the message buffer.
-pub fn collect(i: Input, message: &mut [u8], fragment: &[u8]) -> Collected
-    requires { ⌜ Filled i × (i .got ≤ length (now message)) × (length (now message) < 4294967296) × (6 ≤ length (now fragment)) ⌝ }
-    ensures { λ r. ⌜ (r ≡ collectedOf (collect reading (length (now (message .entry))) (inputIn i (now (message .entry))) (fragmentOf (now (fragment .entry))))) × (now (message .exit) ≡ laidBy (length (now (message .entry))) (inputIn i (now (message .entry))) (fragmentOf (now (fragment .entry))) (now (message .entry))) ⌝ }
+// A fragment whose header is not wrong: what it comes to, what is held of it in the records, and its data in the message buffer.
+pub fn collect(b: &mut [u8], message: &mut [u8], fragment: &[u8]) -> Answer
+    requires { ⌜ (recordsSize ≤ length (now b)) × Filled (heldIn (now b)) × (heldIn (now b) .got ≤ length (now message)) × (length (now message) < 4294967296) × (6 ≤ length (now fragment)) ⌝ }
+    ensures { λ r. ⌜ Met (collectedOf (collect reading (length (now (message .entry))) (inputIn (heldIn (now (b .entry))) (now (message .entry))) (fragmentOf (now (fragment .entry))))) r (now (b .entry)) (now (b .exit)) × (now (message .exit) ≡ laidBy (length (now (message .entry))) (inputIn (heldIn (now (b .entry))) (now (message .entry))) (fragmentOf (now (fragment .entry))) (now (message .entry))) ⌝ }
 {
     let last = is_last(fragment);
     if is_command(fragment) {
-        by_command(i, &fragment[6..], last)
+        by_command(b, &fragment[6..], last)
     } else {
-        by_data(i, message, &fragment[6..], last)
+        by_data(b, message, &fragment[6..], last)
     }
 }

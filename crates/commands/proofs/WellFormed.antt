@@ -1,14 +1,16 @@
 -- Whether a command is well formed, by each test in its turn.
 -- Assumes nothing.
 use Prim.Native.Nat.{ℕ}
-use mathlib.Core.Path.{_≡_, ap}
-use mathlib.Core.Bool.{true, false}
+use mathlib.Core.Path.{_≡_, ap, sym, _∙_}
+use mathlib.Core.Bool.{true, false, false≢true}
 use mathlib.Core.List.{List}
 use Rattle.choice.specs.Pick.{pick, both}
 use Rattle.choice.proofs.Picks.{both-fails, both-assoc}
 use Rattle.headers.specs.declared.Syntax.the-variants.{Implicit}
+use Rattle.rules.specs.declared.Command.{Command}
 use Rattle.rules.specs.declared.Command.the-variants.{Unreadable}
 use Rattle.elements.specs.Reader.{dataSet}
+use Rattle.rules.specs.Sound.{readable}
 use Rattle.rules.specs.Commands.{isRead, groupZero, lengthTold, wellFormed, requestIn, understood}
 use Rattle.commands.specs.Places.{wholeCommand}
 use Rattle.commands.specs.Requests.{hasNumbers}
@@ -30,3 +32,7 @@ module _ (c : List ℕ) where
 
   pub asks : wholeCommand c ≡ true → lengthTold c ≡ true → hasNumbers c ≡ true → requestIn c ≡ understood c
   asks w t n = rw (by-tests c, w, t, n)
+
+-- of a command that is unreadable nothing is told of a data set
+pub nothing-told : {k u : Command} {A : Type 0} → k ≡ Unreadable → Unreadable ≡ u → (k ≡ u) × (readable k ≡ true → A)
+nothing-told e u = (e ∙ u, λ r. absurd (false≢true (sym (ap readable e) ∙ r)))

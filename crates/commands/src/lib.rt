@@ -1,5 +1,4 @@
 // Commands: what a whole command set says, held to the book.
-use elements::Found;
 use elements::NESTED;
 use elements::Read;
 use headers::Close;
@@ -15,7 +14,7 @@ use rules::Request;
 use rules::Target;
 use rules::Verification;
 ghost use mathlib.Core.Path.{_≡_};
-ghost use mathlib.Core.Bool.{false};
+ghost use mathlib.Core.Bool.{true, false};
 ghost use Prim.Native.Nat.{_≤_, _<_};
 ghost use lib.Dec.{eqb};
 ghost use lib.ListN.{length, getD};
@@ -25,7 +24,9 @@ ghost use Rattle.headers.specs.declared.Syntax.the-variants.{Implicit};
 ghost use Rattle.headers.specs.Header.{headAt};
 ghost use Rattle.elements.specs.Reader.{elementAt};
 ghost use Rattle.elements.specs.Find.{found};
-ghost use Rattle.rules.specs.Commands.{inCommand, placed, size, uidAt, hasTarget, lengthTold, hasData, requestIn, understood};
+ghost use Rattle.rules.specs.declared.Command.the-variants.{Unreadable};
+ghost use Rattle.rules.specs.Sound.{readable};
+ghost use Rattle.rules.specs.Commands.{placed, size, uidAt, hasTarget, lengthTold, hasData, requestIn, understood};
 ghost use Rattle.commands.specs.Places.{slotOf, Holds, Gathers};
 ghost use Rattle.commands.specs.Requests.{hasNumbers, knownAs, targetIn, echoIn, creationIn, settingIn, actionIn, deletionIn};
 
@@ -49,9 +50,6 @@ const REQUESTED_INSTANCE: usize = 7;
 const ACTION_TYPE: usize = 8;
 
 const OTHERS: usize = 9;
-
-// The tag that says whether a data set comes.
-const DATA_SET_TYPE: usize = 0x0000_0800;
 
 const ITEM_END: usize = 0xFFFE_E00D;
 
@@ -167,17 +165,6 @@ fn gathered(c: &[u8]) -> Places
     }
 }
 
-// Where the value of a tag stands; an empty place where there is none.
-fn place(c: &[u8], tag: usize) -> Part
-    ensures { λ r. ⌜ (r ≡ placed (inCommand (now (c .entry)) tag)) × (r .from ≤ r .stop) × (r .stop ≤ length (now (c .entry))) ⌝ }
-{
-    match finding::find(c, elements::data_scope(c, Syntax::Implicit), tag) {
-        Found::Missing => Part { from: 0, stop: 0 },
-        Found::Value(part) => part,
-        Found::Sequence(_) => Part { from: 0, stop: 0 },
-    }
-}
-
 // The byte at a place, 0 behind the end.
 fn octet(c: &[u8], at: usize) -> u16
     ensures { λ r. ⌜ (r ≡ getD (now (c .entry)) at 0) × (r < 256) ⌝ }
@@ -259,10 +246,11 @@ fn has_numbers(c: &[u8], places: [Part; 10]) -> bool
 }
 
 // Whether a data set comes with the command.
-pub fn has_data(c: &[u8]) -> bool
+fn has_data(c: &[u8], places: [Part; 10]) -> bool
+    requires { ⌜ Holds (now c) places ⌝ }
     ensures { λ r. ⌜ r ≡ hasData (now (c .entry)) ⌝ }
 {
-    if number(c, place(c, DATA_SET_TYPE)) == 0x0101 {
+    if number(c, places[DATA_SET]) == 0x0101 {
         return false;
     }
     true
@@ -389,20 +377,45 @@ fn request(c: &[u8], places: [Part; 10]) -> Command
     }
 }
 
-// What a whole command set says.
-pub fn understood(c: &[u8]) -> Command
-    ensures { λ r. ⌜ r ≡ understood (now (c .entry)) ⌝ }
+// What a whole command set says, and where it can be read whether a data set comes with it.
+pub struct Saying {
+    pub command: Command,
+    pub with_data: bool,
+}
+
+fn unreadable() -> Saying
+    ensures { λ r. ⌜ r .command ≡ Unreadable ⌝ }
+{
+    Saying {
+        command: Command::Unreadable,
+        with_data: false,
+    }
+}
+
+// By one walk.
+pub fn said(c: &[u8]) -> Saying
+    ensures { λ r. ⌜ (r .command ≡ understood (now (c .entry))) × (readable (r .command) ≡ true → r .with_data ≡ hasData (now (c .entry))) ⌝ }
 {
     let walked = gathered(c);
     if !walked.whole {
-        return Command::Unreadable;
+        return unreadable();
     }
     let places = walked.parts;
     if !length_told(c, places) {
-        return Command::Unreadable;
+        return unreadable();
     }
     if !has_numbers(c, places) {
-        return Command::Unreadable;
+        return unreadable();
     }
-    request(c, places)
+    Saying {
+        command: request(c, places),
+        with_data: has_data(c, places),
+    }
+}
+
+pub fn understood(c: &[u8]) -> Command
+    ensures { λ r. ⌜ r ≡ understood (now (c .entry)) ⌝ }
+{
+    let all = said(c);
+    all.command
 }

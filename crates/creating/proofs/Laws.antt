@@ -1,38 +1,40 @@
 -- What checks 8 and 9 leave, and what the creation of a session or a film means.
 -- Assumes nothing.
 use Prim.Native.Nat.{ℕ, _+_, _-_, _<_, _≤_}
-use mathlib.Core.Path.{_≡_, refl, sym, ap, _∙_}
+use mathlib.Core.Path.{_≡_, refl, sym, ap, subst, _∙_}
 use mathlib.Core.Bool.{Bool, true, false}
 use mathlib.Core.List.{List, [], _∷_, _++_}
 use mathlib.Core.Option.{some}
 use native.Mathlib.Omega.{arith}
 use lib.Dec.{eqb}
-use lib.ListN.{length, replicate}
+use lib.ListN.{length, getD, replicate}
 use lib.Seq.{take-append-seam}
 use borrow.Author.Tests.{eq-eqb, ne-eqb, eqb-true, eqb-false, ltb-false}
 use Rattle.choice.specs.Pick.{pick, not}
 use Rattle.choice.specs.Rules.{Rule, _⇒_, firstBroken}
 use Rattle.choice.proofs.Picks.{first-kept, not-true}
 use Rattle.choice.proofs.Broken.{broken-append}
+use Rattle.octets.specs.Octets.{numberAt}
 use Rattle.headers.specs.declared.Part.{Part}
 use Rattle.uids.specs.Uids.{unpadded}
+use Rattle.rules.specs.declared.Layout.{Layout}
 use Rattle.rules.specs.declared.Film.{Film}
 use Rattle.rules.specs.declared.Numbers.{Numbers}
 use Rattle.rules.specs.declared.Shelf.{Shelf}
 use Rattle.rules.specs.declared.Session.{Session}
 use Rattle.rules.specs.declared.Core.{Core}
-use Rattle.rules.specs.declared.Contents.{Contents}
 use Rattle.rules.specs.declared.Verdict.{Verdict}
 use Rattle.rules.specs.declared.Request.{Request}
-use Rattle.rules.specs.Bounds.{mostFilms, noneLeft}
+use Rattle.rules.specs.Bounds.{mostFilms, mostBoxes, noneLeft}
 use Rattle.rules.specs.Lists.{every}
 use Rattle.rules.specs.Values.{blank, kindIn, countsIn}
-use Rattle.rules.specs.Records.{boxCount, filmsOf, shelved, isLive, withNumbers, withFilms, serialsUsed, sessionsOf, theSession}
+use Rattle.rules.specs.Records.{boxCount, filmsOf, shelved, isLive, sessionsOf, theSession}
+use Rattle.rules.specs.Layout.{numbersSize, coreFormat, numbersFormat, sessionFormat, shelfFormat}
 use Rattle.rules.specs.Commands.{size, bytesOf, uidAt}
 use Rattle.rules.specs.Attributes.{Listing, Standing, fine, look, valueOf, attributeRules, sessionStandings, reference, sessionIn, optionalFilm, filmCreateStandings, filmWith, layoutFrom, layoutIn}
 use Rattle.rules.specs.Effects.{ownSerials, tooFewSerials, nameFrom, sessionCreated, newFilm, filmSerials, filmCreated}
 use Rattle.rules.specs.declared.Class.the-variants.{Sessions, Films}
-use Rattle.rules.specs.Checks.{createRules, newSessionRules, newFilmRules, quietly, sentUid, boxesIn, createPlan, decidedBy}
+use Rattle.rules.specs.Checks.{createRules, newSessionRules, newFilmRules, quietly, sentUid, createPlan, decidedBy}
 use Rattle.rules.specs.Sound.{coreSound}
 use Rattle.promises.proofs.ListLaws.{each-parts}
 use Rattle.promises.proofs.Facts.{core-facts, numbers-facts, between-true}
@@ -42,8 +44,29 @@ use Rattle.promises.proofs.Standings.{kept-fine, mandatory-fine, reference-live
 use Rattle.promises.proofs.Layouts.{Lines, counts-lines, sum-between, layout-few}
 use Rattle.promises.proofs.NewNames.{sendable, sent-short}
 use Rattle.choice.proofs.Broken.{none-broken}
+use Rattle.records.specs.Places.{shelfPlace, coreIn}
+use Rattle.records.proofs.Parts.{core-session, core-shelf}
+use Rattle.changes.specs.declared.Effect.the-variants.{SessionCreated}
+use Rattle.changes.specs.declared.Change.{Change}
+use Rattle.changes.specs.declared.Decision.{Decision}
+use Rattle.changes.specs.Changes.{affected, changed, changeWithSession, verdictOf, EffectFits, Fits}
 use Rattle.verdicts.proofs.Plans.{kept-decides}
-use Rattle.creating.specs.FilmVerdict.{withNewBoxes}
+use Rattle.creating.specs.Creating.{sessionMade, withNewFilm}
+
+-- What stands in the records' bytes.
+
+module _ (b : List ℕ) where
+  pub serial-read : numberAt 5 b 41 ≡ coreIn b .numbers .serial
+  unfolding coreFormat numbersFormat
+  serial-read = refl
+
+  pub live-read : getD b numbersSize 0 ≡ theSession (coreIn b) .live
+  unfolding sessionFormat
+  live-read = sym (ap (λ (s : Session). s .live) (core-session b))
+
+  pub count-read : getD b shelfPlace 0 ≡ coreIn b .shelf .count
+  unfolding shelfFormat
+  count-read = sym (ap (λ (s : Shelf). s .count) (core-shelf b))
 
 -- Check 8 before check 9.
 
@@ -91,8 +114,12 @@ pub own-left : (a b c : ℕ) → a + (b + c) ≤ noneLeft → a + b ≤ noneLeft
 own-left a b c h = omega arith
 
 -- the first of the boxes' serials has 32 bits
-pub first-fits : (a b c n : ℕ) → a + (b + c) ≤ noneLeft → 1 ≤ c → n ≡ b → a + n < noneLeft
-first-fits a b c n h g e = omega arith
+pub first-fits : (a b c m n : ℕ) → a + (b + c) ≤ noneLeft → 1 ≤ c → m ≡ a → n ≡ b → m + n < noneLeft
+first-fits a b c m n h g d e = omega arith
+
+-- the serials of a film with the layout that the data set gives
+pub serials-told : (sent : List ℕ) (l : Listing) {layout : Layout} {n : ℕ} → layout ≡ layoutIn l → n ≡ ownSerials sent + boxCount layout → n ≡ filmSerials sent l
+serials-told sent l e z = z ∙ ap (λ (x : Layout). ownSerials sent + boxCount x) e
 
 -- Sessions.
 
@@ -105,14 +132,25 @@ session-kept k sent l e =
     )
 
 -- the only place, by what the code reads there
-module _ (k : Core) (s : Session) (here : s ≡ theSession k) where
-  pub place-taken : (s .live ≡ 0 → ⊥) → every isLive (sessionsOf k) ≡ true
+module _ (k : Core) (live : ℕ) (here : live ≡ theSession k .live) where
+  pub place-taken : (live ≡ 0 → ⊥) → every isLive (sessionsOf k) ≡ true
   unfolding every
-  place-taken h = rw (← here, ne-eqb (s .live) 0 h)
+  place-taken h = rw (← here, ne-eqb live 0 h)
 
-  pub place-blank : s .live ≡ 0 → every isLive (sessionsOf k) ≡ false
+  pub place-blank : live ≡ 0 → every isLive (sessionsOf k) ≡ false
   unfolding every
-  place-blank h = rw (← here, eq-eqb (s .live) 0 h)
+  place-blank h = rw (← here, eq-eqb live 0 h)
+
+-- the change that creates it
+module _ (k : Core) (sent : List ℕ) (l : Listing) (session : Session) (serials : ℕ) (change : Change)
+    (made : session ≡ sessionMade (k .numbers) sent l) (own : serials ≡ ownSerials sent) (e : change ≡ changeWithSession (SessionCreated serials) session) where
+  pub session-created : quietly (changed k change) (session .name) ≡ quietly (sessionCreated k sent l) (nameFrom (k .numbers) sent)
+  unfolding affected sessionCreated
+  session-created = rw (e, own, made)
+
+  pub session-fits : k .numbers .serial + ownSerials sent ≤ noneLeft → Fits k change
+  unfolding EffectFits
+  session-fits h = rw (e, own) h
 
 -- Films.
 
@@ -157,29 +195,31 @@ room-left k sent l e h f =
     let d : k .shelf .count ≡ 8 → ⊥ = λ z. f .room (n ∙ z) in
     omega arith
 
-pub new-few : (k : Core) (sent : List ℕ) (l : Listing) → boxCount (newFilm k sent l .layout) ≤ 36
+pub new-few : (k : Core) (sent : List ℕ) (l : Listing) → boxCount (newFilm k sent l .layout) ≤ mostBoxes
 unfolding newFilm filmWith
 new-few k sent l = layout-few l
 
 -- What decides the plans.
 
-module _ (k : Core) (sent : List ℕ) (l : Listing) (c : List ℕ) (r : Request) (v : Verdict) where
-  pub session-decides : (n : ℕ) → n ≡ firstBroken (newSessionRules k sent l) → n ≡ 0 → v ≡ quietly (sessionCreated k sent l) (nameFrom (k .numbers) sent) → v ≡ decidedBy k c r (createPlan k Sessions sent l)
+module _ (k : Core) (sent : List ℕ) (l : Listing) (c : List ℕ) (r : Request) where
+  pub session-decides : (v : Verdict) (n : ℕ) → n ≡ firstBroken (newSessionRules k sent l) → n ≡ 0 → v ≡ quietly (sessionCreated k sent l) (nameFrom (k .numbers) sent) → v ≡ decidedBy k c r (createPlan k Sessions sent l)
   unfolding createPlan
-  session-decides n e z f = kept-decides k c r (newSessionRules k sent l) (record { rules = []; verdict = createPlan k Sessions sent l .verdict }) refl n e v z f
+  session-decides v n e z f = kept-decides k c r (newSessionRules k sent l) (record { rules = []; verdict = createPlan k Sessions sent l .verdict }) refl n e v z f
 
-  film-verdict : withNewBoxes (filmCreated k sent l) (newFilm k sent l .name) (boxesIn (newFilm k sent l)) ≡ createPlan k Films sent l .verdict
-  unfolding createPlan newFilm filmWith
+  film-verdict : verdictOf k (withNewFilm (filmSerials sent l) (newFilm k sent l)) ≡ createPlan k Films sent l .verdict
+  unfolding createPlan newFilm filmWith affected filmCreated
   film-verdict = refl
 
-  module _ (after : Core) (film : Film) (contents : Contents) (serials : ℕ) (f : film ≡ newFilm k sent l) (s : serials ≡ filmSerials sent l) where
-    verdict-on : v ≡ withNewBoxes after (film .name) contents → contents ≡ boxesIn film → after ≡ withFilms (filmsOf (k .shelf) ++ (film ∷ [])) (withNumbers (serialsUsed serials (k .numbers)) k)
-        → v ≡ withNewBoxes (filmCreated k sent l) (newFilm k sent l .name) (boxesIn (newFilm k sent l))
-    unfolding filmCreated
-    verdict-on e b a = e ∙ rw (b, a, s, f)
+  module _ (d : Decision) (film : Film) (serials : ℕ) (f : film ≡ newFilm k sent l) (s : serials ≡ filmSerials sent l) (e : d ≡ withNewFilm serials film) where
+    decision-made : d ≡ withNewFilm (filmSerials sent l) (newFilm k sent l)
+    decision-made = e ∙ rw (s, f)
 
-    pub film-decides : (n : ℕ) → n ≡ firstBroken (newFilmRules k sent l) → n ≡ 0 → v ≡ withNewBoxes after (film .name) contents → contents ≡ boxesIn film → after ≡ withFilms (filmsOf (k .shelf) ++ (film ∷ [])) (withNumbers (serialsUsed serials (k .numbers)) k)
-        → v ≡ decidedBy k c r (createPlan k Films sent l)
+    pub film-decides : (n : ℕ) → n ≡ firstBroken (newFilmRules k sent l) → n ≡ 0 → verdictOf k d ≡ decidedBy k c r (createPlan k Films sent l)
     unfolding createPlan
-    film-decides n e z g b a =
-        kept-decides k c r (newFilmRules k sent l) (record { rules = []; verdict = createPlan k Films sent l .verdict }) refl n e v z (verdict-on g b a ∙ film-verdict)
+    film-decides n broken z =
+        kept-decides k c r (newFilmRules k sent l) (record { rules = []; verdict = createPlan k Films sent l .verdict }) refl n broken (verdictOf k d) z
+        (ap (λ (x : Decision). verdictOf k x) decision-made ∙ film-verdict)
+
+    pub film-fits : k .shelf .count < mostFilms → k .numbers .serial + filmSerials sent l ≤ noneLeft → Fits k (d .change)
+    unfolding EffectFits
+    film-fits room left = subst (λ (x : Decision). Fits k (x .change)) (sym decision-made) (room, left)

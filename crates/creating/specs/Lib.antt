@@ -1,1 +1,1 @@
-pub mod FilmVerdict
+pub mod Creating

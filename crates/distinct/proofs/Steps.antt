@@ -1,33 +1,44 @@
--- A test of a list that goes on from each element to those behind it: one turn at a time, over the first few.
+-- A test of films that goes on from each to those behind it: one turn at a time, over the first few.
 -- Assumes nothing.
 use Prim.Native.Nat.{ℕ, _+_, _<_, _≤_}
-use mathlib.Core.Path.{_≡_, _∙_}
+use mathlib.Core.Path.{_≡_, ap, _∙_}
 use mathlib.Core.Bool.{Bool, true, false}
 use mathlib.Core.List.{List, [], _∷_}
-use native.Mathlib.Numerals.{add-one}
-use native.Mathlib.Omega.{arith}
-use lib.ListN.{length, getD, take, drop, length-take, drop-of-length-le}
-use lib.Seq.{drop-cons, getD-take}
+use lib.ListN.{drop}
 use Rattle.choice.specs.Pick.{both}
+use Rattle.rules.specs.declared.Film.{Film}
+use Rattle.rules.specs.Bounds.{mostFilms}
+use Rattle.rules.specs.Layout.{serialFormat, pictureFormat, nameFormat, layoutFormat, boxFormat, filmFormat, shelfFormat}
+use Rattle.records.specs.Places.{shelfPlace}
+use Rattle.distinct.specs.Films.{filmPlace, filmsIn}
+use Rattle.distinct.proofs.InPlace.{film-places}
+use Rattle.distinct.proofs.Arrays.{next-read, none-read}
 
-pub record Stepwise {A : Type 0} (passes : List A → Bool) (step : A → List A → Bool) : Type 0 where
+-- the films from one on
+pub next-film : (b : List ℕ) (n i p : ℕ) → i < n → n ≤ mostFilms → p ≡ filmPlace i → drop i (filmsIn b n) ≡ filmFormat .read b p ∷ drop (i + 1) (filmsIn b n)
+unfolding shelfFormat filmFormat nameFormat serialFormat layoutFormat boxFormat pictureFormat
+next-film b n i p l h e = next-read filmFormat b (shelfPlace + 1) mostFilms n i (film-places b) p e l h
+
+pub no-film : (b : List ℕ) (n i : ℕ) → n ≤ i → drop i (filmsIn b n) ≡ []
+unfolding shelfFormat
+no-film b n i h = none-read filmFormat b (shelfPlace + 1) mostFilms n i h
+
+pub record Stepwise (passes : List Film → Bool) (step : Film → List Film → Bool) : Type 0 where
   pub none : passes [] ≡ true
-  pub more : (x : A) (xs : List A) → passes (x ∷ xs) ≡ both (step x xs) (passes xs)
+  pub more : (f : Film) (films : List Film) → passes (f ∷ films) ≡ both (step f films) (passes films)
 
-module _ {A : Type 0} {passes : List A → Bool} {step : A → List A → Bool} (s : Stepwise passes step) (xs : List A) (n i : ℕ) where
-  module _ (d : A) (h : i < length xs) (l : i < n) where
-    turn : passes (drop i (take n xs)) ≡ both (step (getD xs i d) (drop (i + 1) (take n xs))) (passes (drop (i + 1) (take n xs)))
-    turn =
-        let short : i < length (take n xs) = rw (length-take) (omega arith) in
-        rw (add-one i, drop-cons (take n xs) i d short, getD-take n xs i d l) (s .more _ _)
+module _ {passes : List Film → Bool} {step : Film → List Film → Bool} (s : Stepwise passes step) (b : List ℕ) (n i : ℕ) where
+  module _ (l : i < n) (h : n ≤ mostFilms) (p : ℕ) (at : p ≡ filmPlace i) where
+    turn : passes (drop i (filmsIn b n)) ≡ both (step (filmFormat .read b p) (drop (i + 1) (filmsIn b n))) (passes (drop (i + 1) (filmsIn b n)))
+    turn = ap passes (next-film b n i p l h at) ∙ s .more _ _
 
-    -- the element at i passes: the next ones
-    pub step-on : step (getD xs i d) (drop (i + 1) (take n xs)) ≡ true → passes (drop i (take n xs)) ≡ passes (drop (i + 1) (take n xs))
+    -- the film at i passes: the next ones
+    pub step-on : step (filmFormat .read b p) (drop (i + 1) (filmsIn b n)) ≡ true → passes (drop i (filmsIn b n)) ≡ passes (drop (i + 1) (filmsIn b n))
     step-on e = turn ∙ rw e
 
     -- it does not
-    pub step-not : step (getD xs i d) (drop (i + 1) (take n xs)) ≡ false → passes (drop i (take n xs)) ≡ false
+    pub step-not : step (filmFormat .read b p) (drop (i + 1) (filmsIn b n)) ≡ false → passes (drop i (filmsIn b n)) ≡ false
     step-not e = turn ∙ rw e
 
-  pub step-end : n ≤ i → passes (drop i (take n xs)) ≡ true
-  step-end h = let e : length (take n xs) ≤ i = rw (length-take) (omega arith) in rw (drop-of-length-le (take n xs) e) (s .none)
+  pub step-end : n ≤ i → passes (drop i (filmsIn b n)) ≡ true
+  step-end h = ap passes (no-film b n i h) ∙ s .none

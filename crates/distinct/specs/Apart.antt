@@ -1,9 +1,8 @@
--- "UIDs differ", film by film: serials and names that no film has, and films that differ from one another.
+-- "UIDs differ", film by film: serials and texts that no film has, and films that differ from one another.
 use Prim.Native.Nat.{ℕ}
 use mathlib.Core.Bool.{Bool}
 use mathlib.Core.List.{List, map}
 use Rattle.choice.specs.Pick.{both, not}
-use Rattle.rules.specs.declared.Name.{Name}
 use Rattle.rules.specs.declared.Film.{Film}
 use Rattle.rules.specs.Lists.{every, apart}
 use Rattle.rules.specs.Records.{boxCount}
@@ -33,18 +32,9 @@ serialsApart films = apart overlap (serialsOf films)
 abbrev pub filmText : Film → List ℕ
 filmText f = sentText (f .name)
 
--- no film has the text of this name
-unfoldable pub textFree : Name → List Film → Bool
-textFree name films = every (λ t. not (sameText (sentText name) t)) (map filmText films)
+-- no film has this text
+unfoldable pub textFree : List ℕ → List Film → Bool
+textFree text films = every (λ t. not (sameText text t)) (map filmText films)
 
 unfoldable pub textsApart : List Film → Bool
 textsApart films = apart sameText (map filmText films)
-
--- a film has neither the UID of this name nor one of these films, and its own differ from one another
-abbrev pub filmDiffers : Name → Film → List Film → Bool
-filmDiffers name f films =
-    both (freeOfFilm (ownSerial name) f) (both (filmApart f films) (both (not (sameText (sentText name) (filmText f))) (textFree (f .name) films)))
-
--- the films' UIDs differ from this name's and from one another
-unfoldable pub filmsDiffer : Name → List Film → Bool
-filmsDiffer name films = both (both (serialsFree (ownSerial name) films) (serialsApart films)) (both (textFree name films) (textsApart films))

@@ -1,1 +1,3 @@
+pub mod Films
 pub mod Apart
+pub mod Ascending

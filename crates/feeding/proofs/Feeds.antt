@@ -30,8 +30,7 @@ use Rattle.rules.specs.Checks.{decide}
 use Rattle.rules.specs.Calls.{messageWrong, feedRules, check, closed, reading, printing}
 use Rattle.rules.specs.Outcomes.{inputIn, inputHeld, recordsIn, written, reportBytes, recordsRules, Lent, nothingFed, fedOnly, fedTo, lengths, feeds}
 use Rattle.collecting.specs.declared.Answer.the-variants.{Ignored, Wait, Dropped}
-use Rattle.collecting.specs.declared.Collected.{Collected}
-use Rattle.collecting.specs.Collecting.{Filled, fragmentOf, collectedOf, meantBy, outcomeMeant}
+use Rattle.collecting.specs.Collecting.{Collected, Filled, fragmentOf, collectedOf, meantBy, outcomeMeant}
 use Rattle.collecting.proofs.Meant.{collected-meant, fragment-in, sound-filled}
 use Rattle.promises.proofs.ListLaws.{all-true}
 use Rattle.promises.proofs.Kept.{sound-parts}

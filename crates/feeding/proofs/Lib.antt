@@ -1,4 +1,4 @@
 -- The laws of a feed: its response, its records, and each way out of it.
 mod Response
-mod Records
+pub mod Records
 pub mod Feeds

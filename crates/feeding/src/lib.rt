@@ -1,17 +1,15 @@
 // Feeding: what a feed is refused for, the response that it writes, and the records afterwards.
-use records::CORE;
+use changes::Decision;
+use records::AT_OPENED;
 use responses::put_film_boxes;
 use responses::put_report;
 use responses::put_response;
 use rules::Contents;
-use rules::Core;
-use rules::Input;
 use rules::Name;
 use rules::Note;
 use rules::Numbers;
 use rules::Operation;
 use rules::Request;
-use rules::Verdict;
 ghost use mathlib.Core.Bool.{true};
 ghost use mathlib.Core.Path.{_≡_};
 ghost use Prim.Native.Nat.{_≤_};
@@ -21,13 +19,15 @@ ghost use Rattle.octets.specs.Octets.{laid};
 ghost use Rattle.strike.specs.Machine.{idle};
 ghost use Rattle.rules.specs.Layout.{recordsSize};
 ghost use Rattle.rules.specs.declared.Contents.the-variants.{NewBoxes};
-ghost use Rattle.rules.specs.Records.{uidOf, instanceOf};
+ghost use Rattle.rules.specs.Records.{uidOf, instanceOf, syntaxIn};
 ghost use Rattle.rules.specs.Responses.{ContentsFit, dataSetOf};
 ghost use Rattle.rules.specs.Sound.{coreSound};
 ghost use Rattle.rules.specs.Checks.{fieldOf, replyTo};
 ghost use Rattle.rules.specs.Calls.{feedRules};
 ghost use Rattle.rules.specs.Outcomes.{inputHeld, reportBytes};
+ghost use Rattle.records.specs.Places.{coreIn};
 ghost use Rattle.responses.specs.Parts.{given, dataShown};
+ghost use Rattle.changes.specs.Changes.{changed, verdictOf, Tidy, Fits};
 ghost use Rattle.verdicts.specs.Ready.{UidsIn};
 ghost use Rattle.feeding.specs.Feeding.{isAction, kindOf, commandBytes, reportOf, unknownReply, inputWritten, settled};
 
@@ -58,16 +58,15 @@ fn put_uid(out: &mut [u8], n: Numbers, name: Name) -> usize
 }
 
 // The created film's data set: how many bytes it has.
-fn put_new_boxes(data_set: &mut [u8], k: Core, first: u32, count: u8) -> usize
-    requires { ⌜ (8192 ≤ length (now data_set)) × (k .numbers .used ≤ 40) × ContentsFit (NewBoxes first count) ⌝ }
-    ensures { λ r. ⌜ (now (data_set .exit) ≡ laid (now (data_set .entry)) 0 (dataSetOf k (NewBoxes first count))) × (r ≡ length (dataSetOf k (NewBoxes first count))) ⌝ }
+fn put_new_boxes(data_set: &mut [u8], b: &[u8], first: u32, count: u8) -> usize
+    requires { ⌜ (8192 ≤ length (now data_set)) × (recordsSize ≤ length (now b)) × (coreIn (now b) .numbers .used ≤ 40) × ContentsFit (NewBoxes first count) ⌝ }
+    ensures { λ r. ⌜ (now (data_set .exit) ≡ laid (now (data_set .entry)) 0 (dataSetOf (coreIn (now (b .entry))) (NewBoxes first count))) × (r ≡ length (dataSetOf (coreIn (now (b .entry))) (NewBoxes first count))) ⌝ }
 {
-    let opened = k.opened;
-    let numbers = k.numbers;
+    let numbers = records::numbers_at(b, 0);
     let root = numbers.root;
     put_film_boxes(
         data_set,
-        headers::syntax_of(opened.syntax),
+        records::syntax_in(b),
         octets::front(&root, numbers.used as usize),
         first,
         count as usize,
@@ -75,13 +74,13 @@ fn put_new_boxes(data_set: &mut [u8], k: Core, first: u32, count: u8) -> usize
 }
 
 // The answer's data set: how many bytes it has.
-fn put_data(data_set: &mut [u8], k: Core, contents: Contents) -> usize
-    requires { ⌜ (8192 ≤ length (now data_set)) × (k .numbers .used ≤ 40) × ContentsFit contents ⌝ }
-    ensures { λ r. ⌜ (now (data_set .exit) ≡ laid (now (data_set .entry)) 0 (dataSetOf k contents)) × (r ≡ length (dataSetOf k contents)) ⌝ }
+fn put_data(data_set: &mut [u8], b: &[u8], contents: Contents) -> usize
+    requires { ⌜ (8192 ≤ length (now data_set)) × (recordsSize ≤ length (now b)) × (coreIn (now b) .numbers .used ≤ 40) × ContentsFit contents ⌝ }
+    ensures { λ r. ⌜ (now (data_set .exit) ≡ laid (now (data_set .entry)) 0 (dataSetOf (coreIn (now (b .entry))) contents)) × (r ≡ length (dataSetOf (coreIn (now (b .entry))) contents)) ⌝ }
 {
     match contents {
         Contents::Nothing => 0,
-        Contents::NewBoxes { first, count } => put_new_boxes(data_set, k, first, count),
+        Contents::NewBoxes { first, count } => put_new_boxes(data_set, b, first, count),
     }
 }
 
@@ -185,23 +184,23 @@ fn put_note(report: &mut [u8], status: u16, command: usize, size: usize, note: N
     }
 }
 
-// The response to a request that came to a verdict.
+// The response to a request that was decided over these records.
 pub fn respond(
     command: &mut [u8],
     data_set: &mut [u8],
     report: &mut [u8],
-    k: Core,
+    b: &[u8],
     c: &[u8],
     request: Request,
-    v: Verdict,
+    v: Decision,
 )
-    requires { ⌜ (256 ≤ length (now command)) × (8192 ≤ length (now data_set)) × (20 ≤ length (now report)) × (coreSound k ≡ true) × UidsIn (now c) (request .operation) × ContentsFit (v .contents) ⌝ }
-    ensures { λ _. ⌜ (now (command .exit) ≡ laid (now (command .entry)) 0 (replyTo k (now (c .entry)) request v .command)) × (now (data_set .exit) ≡ laid (now (data_set .entry)) 0 (replyTo k (now (c .entry)) request v .dataSet)) × (now (report .exit) ≡ laid (now (report .entry)) 0 (reportBytes (replyTo k (now (c .entry)) request v))) ⌝ }
+    requires { ⌜ (256 ≤ length (now command)) × (8192 ≤ length (now data_set)) × (20 ≤ length (now report)) × (recordsSize ≤ length (now b)) × (coreSound (coreIn (now b)) ≡ true) × UidsIn (now c) (request .operation) × ContentsFit (v .contents) ⌝ }
+    ensures { λ _. ⌜ (now (command .exit) ≡ laid (now (command .entry)) 0 (replyTo (coreIn (now (b .entry))) (now (c .entry)) request (verdictOf (coreIn (now (b .entry))) v) .command)) × (now (data_set .exit) ≡ laid (now (data_set .entry)) 0 (replyTo (coreIn (now (b .entry))) (now (c .entry)) request (verdictOf (coreIn (now (b .entry))) v) .dataSet)) × (now (report .exit) ≡ laid (now (report .entry)) 0 (reportBytes (replyTo (coreIn (now (b .entry))) (now (c .entry)) request (verdictOf (coreIn (now (b .entry))) v)))) ⌝ }
 {
     let contents = v.contents;
-    let size = put_data(data_set, k, contents);
+    let size = put_data(data_set, b, contents);
     let mut uid = [0u8; 64];
-    let numbers = k.numbers;
+    let numbers = records::numbers_at(b, 0);
     let instance = v.instance;
     let n = put_uid(&mut uid, numbers, instance);
     let stop = put_command(
@@ -227,30 +226,23 @@ pub fn respond_unknown(command: &mut [u8], report: &mut [u8], message: u16, fiel
 
 // The records afterwards.
 
-// The same core with another input: the core's bytes are what they were.
-pub fn put_input(records: &mut [u8], i: Input)
-    requires { ⌜ recordsSize ≤ length (now records) ⌝ }
-    ensures { λ _. ⌜ now (records .exit) ≡ inputWritten i (now (records .entry)) ⌝ }
-{
-    records::put_input(records, CORE, i);
-}
-
 // The same core with no message half collected.
 pub fn put_idle(records: &mut [u8])
     requires { ⌜ recordsSize ≤ length (now records) ⌝ }
     ensures { λ _. ⌜ now (records .exit) ≡ inputWritten (inputHeld idle) (now (records .entry)) ⌝ }
 {
-    put_input(records, opening::no_input());
+    opening::put_no_input(records);
 }
 
-// The records after a verdict: what was done is kept, a failure leaves the core.
-pub fn put_settled(records: &mut [u8], v: Verdict)
-    requires { ⌜ recordsSize ≤ length (now records) ⌝ }
-    ensures { λ _. ⌜ now (records .exit) ≡ settled (v .done) (v .core) (now (records .entry)) ⌝ }
+// The records after a decision: what was done is kept, a failure leaves the core.
+pub fn put_settled(records: &mut [u8], v: Decision)
+    requires { ⌜ (recordsSize ≤ length (now records)) × Tidy (coreIn (now records)) × Fits (coreIn (now records)) (v .change) ⌝ }
+    ensures { λ _. ⌜ now (records .exit) ≡ settled (v .done) (changed (coreIn (now (records .entry))) (v .change)) (now (records .entry)) ⌝ }
 {
     if v.done {
-        let core = v.core;
-        opening::put_core(records, core);
+        let change = v.change;
+        changes::put_change(records, change);
+        opening::put_no_input(records);
     } else {
         put_idle(records);
     }
@@ -258,11 +250,18 @@ pub fn put_settled(records: &mut [u8], v: Verdict)
 
 // The refusals.
 
-// The number that a feed is refused with, by the lengths of the buffers; 0 where it is not.
-pub fn feed_refused(k: Core, message: usize, command: usize, data_set: usize, report: usize) -> u32
-    ensures { λ r. ⌜ r ≡ firstBroken (feedRules k (record { message = message; command = command; dataSet = data_set; report = report })) ⌝ }
+// The number that a feed is refused with, by what open fixed and the lengths of the buffers; 0 where it is not.
+pub fn feed_refused(
+    records: &[u8],
+    message: usize,
+    command: usize,
+    data_set: usize,
+    report: usize,
+) -> u32
+    requires { ⌜ recordsSize ≤ length (now records) ⌝ }
+    ensures { λ r. ⌜ r ≡ firstBroken (feedRules (coreIn (now (records .entry))) (record { message = message; command = command; dataSet = data_set; report = report })) ⌝ }
 {
-    if opening::message_wrong(k, message) {
+    if opening::message_wrong(records, message) {
         return 2;
     }
     if command < 256 {
@@ -274,8 +273,7 @@ pub fn feed_refused(k: Core, message: usize, command: usize, data_set: usize, re
     if report < 20 {
         return 2;
     }
-    let opened = k.opened;
-    if opened.live == 0 {
+    if records[AT_OPENED] == 0 {
         return 4;
     }
     0

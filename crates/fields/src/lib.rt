@@ -92,20 +92,3 @@ pub fn put_bytes64(s: &mut [u8], at: usize, a: [u8; 64])
     let b = a;
     octets::put(s, at, &b);
 }
-
-pub fn bytes1024_at(s: &[u8], at: usize) -> [u8; 1024]
-    requires { ⌜ at + 1024 ≤ length (now s) ⌝ }
-    ensures { λ r. ⌜ r ≡ array 1024 byte .read (now (s .entry)) at ⌝ }
-{
-    let mut a = [0u8; 1024];
-    bytes_at(s, at, &mut a);
-    a
-}
-
-pub fn put_bytes1024(s: &mut [u8], at: usize, a: [u8; 1024])
-    requires { ⌜ at + 1024 ≤ length (now s) ⌝ }
-    ensures { λ _. ⌜ now (s .exit) ≡ write (array 1024 byte) a (now (s .entry)) at ⌝ }
-{
-    let b = a;
-    octets::put(s, at, &b);
-}

@@ -6,6 +6,7 @@ use elements::Read;
 use elements::SEQUENCE_END;
 use elements::element;
 use elements::item;
+use elements::refused;
 use headers::Close;
 use headers::Head;
 use headers::Scope;
@@ -15,27 +16,50 @@ use headers::item_head;
 use headers::tag_at;
 use syntaxes::element_head;
 ghost use mathlib.Core.Path.{_≡_};
+ghost use mathlib.Core.Bool.{true};
 ghost use Prim.Native.Nat.{_≤_};
 ghost use lib.ListN.{length};
 ghost use Rattle.headers.specs.Header.{headAt};
 ghost use Rattle.elements.specs.Reader.{elementAt};
 ghost use Rattle.elements.specs.Find.{only, itemsOf, findAt, itemsAt};
 ghost use Rattle.finding.specs.Gives.{gives};
+ghost use Rattle.finding.specs.Gathered.{ascending, Gathered};
 
-// What an element gives to the one who looks for its tag. A value is read with its header.
-fn given(s: &[u8], syntax: Syntax, room: usize, end: usize, at: usize, floor: usize) -> Found
+// What an element gives to the one who looks for its tag, and how it was read. A value is read with its header.
+struct Looked {
+    found: Found,
+    read: Read,
+}
+
+fn given(s: &[u8], syntax: Syntax, room: usize, end: usize, at: usize, floor: usize) -> Looked
     requires { ⌜ (at ≤ end) × (end ≤ length (now s)) ⌝ }
-    ensures { λ r. ⌜ r ≡ gives (elementAt (now (s .entry)) syntax room end at floor) (headAt (now (s .entry)) syntax end at floor) ⌝ }
+    ensures { λ r. ⌜ (r .found ≡ gives (elementAt (now (s .entry)) syntax room end at floor) (headAt (now (s .entry)) syntax end at floor)) × (r .read ≡ elementAt (now (s .entry)) syntax room end at floor) ⌝ }
 {
     match element_head(s, syntax, end, at, floor) {
-        Head::Fault(_) => Found::Missing,
-        Head::Value(part) => Found::Value(part),
+        Head::Fault(n) => {
+            let reading = refused(n, at, room);
+            let read = reading.read;
+            Looked {
+                found: Found::Missing,
+                read,
+            }
+        }
+        Head::Value(part) => Looked {
+            found: Found::Value(part),
+            read: Read::Past(part.stop),
+        },
         Head::Nest(inside) => {
             let reading = element(s, syntax, room, end, at, floor);
             let read = reading.read;
             match read {
-                Read::Past(_) => Found::Sequence(inside),
-                Read::Refused(_) => Found::Missing,
+                Read::Past(q) => Looked {
+                    found: Found::Sequence(inside),
+                    read: Read::Past(q),
+                },
+                Read::Refused(stop) => Looked {
+                    found: Found::Missing,
+                    read: Read::Refused(stop),
+                },
             }
         }
     }
@@ -63,7 +87,9 @@ pub fn find(s: &[u8], scope: Scope, tag: usize) -> Found
             return Found::Missing;
         }
         if t == tag {
-            return given(s, syntax, scope.room, inside.stop, p, floor);
+            let here = given(s, syntax, scope.room, inside.stop, p, floor);
+            let found = here.found;
+            return found;
         }
         let reading = element(s, syntax, scope.room, inside.stop, p, floor);
         let read = reading.read;
@@ -77,6 +103,62 @@ pub fn find(s: &[u8], scope: Scope, tag: usize) -> Found
             }
         }
     }
+}
+
+// What a list holds under each of the first n tags, by one walk that stops behind the last of them.
+pub fn gathered(s: &[u8], scope: Scope, tags: [usize; 9], n: usize) -> [Found; 9]
+    requires { ⌜ (scope .inside .from ≤ scope .inside .stop) × (scope .inside .stop ≤ length (now s)) × (n ≤ 9) × (ascending tags n ≡ true) ⌝ }
+    ensures { λ r. ⌜ Gathered (now (s .entry)) scope tags n r ⌝ }
+{
+    let syntax = scope.syntax;
+    let inside = scope.inside;
+    let mut founds = [Found::Missing; 9];
+    let mut p = inside.from;
+    let mut floor = 0;
+    let mut k = 0;
+    while k < n {
+        let close = closing(s, ITEM_END, inside, p);
+        if let Close::Here(_) = close {
+            return founds;
+        }
+        if inside.stop - p < 8 {
+            return founds;
+        }
+        let t = tag_at(s, p);
+        let above = t + 1;
+        let sought = tags[k];
+        if sought < t {
+            k += 1;
+        } else if t < sought {
+            let reading = element(s, syntax, scope.room, inside.stop, p, floor);
+            let read = reading.read;
+            match read {
+                Read::Past(q) => {
+                    floor = above;
+                    p = q;
+                }
+                Read::Refused(_) => {
+                    return founds;
+                }
+            }
+        } else {
+            let here = given(s, syntax, scope.room, inside.stop, p, floor);
+            let found = here.found;
+            let read = here.read;
+            match read {
+                Read::Past(q) => {
+                    founds[k] = found;
+                    k += 1;
+                    floor = above;
+                    p = q;
+                }
+                Read::Refused(_) => {
+                    return founds;
+                }
+            }
+        }
+    }
+    founds
 }
 
 fn only_list(head: Head) -> Items

@@ -1,19 +1,26 @@
 -- The instance that a UID names, by what the searches find.
 -- Assumes nothing.
-use Prim.Native.Nat.{ℕ, zero, suc, _<_, _≤_}
-use mathlib.Core.Path.{_≡_, refl, ap, _∙_}
+use Prim.Native.Nat.{ℕ, zero, suc, _-_, _<_, _≤_}
+use mathlib.Core.Path.{_≡_, refl, sym, ap, _∙_}
 use mathlib.Core.Bool.{true, false}
 use mathlib.Core.List.{List, [], _∷_}
 use native.Mathlib.Omega.{arith}
+use lib.Dec.{leb, ltb}
 use lib.ListN.{length, getD}
-use borrow.Author.Tests.{lt-ltb, le-ltb, ltb-true}
-use Rattle.octets.specs.Octets.{same}
-use Rattle.uids.specs.Uids.{beginsWith}
+use borrow.Author.Tests.{lt-ltb, le-ltb, ltb-true, leb-true}
+use Rattle.choice.proofs.Picks.{both-true}
+use Rattle.rules.specs.declared.Numbers.{Numbers}
+use Rattle.rules.specs.declared.Session.{Session}
+use Rattle.rules.specs.declared.Film.{Film}
+use Rattle.rules.specs.declared.Shelf.{Shelf}
 use Rattle.rules.specs.declared.Core.{Core}
 use Rattle.rules.specs.Lists.{any, placeOf}
 use Rattle.rules.specs.declared.Instance.the-variants.{Nobody, TheSession, TheFilm, TheBox}
-use Rattle.rules.specs.Records.{noFilm, boxCount, filmsOf, theSession, rootOf, boxUids, sessionNamed, filmNamed, boxNamed, named}
-use Rattle.instances.proofs.Places.{any-place, place-passes, never-box, box-found}
+use Rattle.rules.specs.Records.{noFilm, boxCount, filmsOf, theSession, rootOf, sessionNamed, filmNamed, boxNamed, named}
+use Rattle.instances.specs.There.{AllFit}
+use Rattle.instances.specs.Serials.{MadeOf, boxSerial}
+use Rattle.instances.proofs.Places.{any-place, place-passes}
+use Rattle.instances.proofs.Serials.{box-place, film-by-serial}
 
 -- what stands in the list does not depend on what stands behind it
 pub getD-within : {A : Type 0} (xs : List A) (i : ℕ) (d e : A) → i < length xs → getD xs i d ≡ getD xs i e
@@ -21,41 +28,54 @@ getD-within [] i d e h = absurd (omega arith)
 getD-within (x ∷ xs) zero d e h = refl
 getD-within (x ∷ xs) (suc i) d e h = getD-within xs i d e (omega arith)
 
-module _ (k : Core) (uid : List ℕ) where
-  pub names-session : sessionNamed (k .numbers) uid (theSession k) ≡ true → TheSession ≡ named k uid
+-- of a core with these parts
+module _ (k : Core) (n : Numbers) (s : Session) (shelf : Shelf) (en : k .numbers ≡ n) (es : theSession k ≡ s) (ef : k .shelf ≡ shelf) (uid : List ℕ) where
+  pub names-session : sessionNamed n uid s ≡ true → TheSession ≡ named k uid
   unfolding named
-  names-session e = rw e
+  names-session e = rw (en, es, e)
 
-  module _ (s : sessionNamed (k .numbers) uid (theSession k) ≡ false) where
-    pub names-film : (i : ℕ) → i ≡ placeOf (filmNamed (k .numbers) uid) (filmsOf (k .shelf)) → i < length (filmsOf (k .shelf)) → TheFilm i ≡ named k uid
+  module _ (other : sessionNamed n uid s ≡ false) where
+    pub names-film : (i : ℕ) → i ≡ placeOf (filmNamed n uid) (filmsOf shelf) → i < length (filmsOf shelf) → TheFilm i ≡ named k uid
     unfolding named
     names-film i at h =
-        let inside : placeOf (filmNamed (k .numbers) uid) (filmsOf (k .shelf)) < length (filmsOf (k .shelf)) = omega arith in
-        rw (s, any-place (filmNamed (k .numbers) uid) (filmsOf (k .shelf)), lt-ltb _ _ inside, at)
+        let inside : placeOf (filmNamed n uid) (filmsOf shelf) < length (filmsOf shelf) = omega arith in
+        rw (en, es, ef, other, any-place (filmNamed n uid) (filmsOf shelf), lt-ltb _ _ inside, at)
 
-    module _ (f : length (filmsOf (k .shelf)) ≤ placeOf (filmNamed (k .numbers) uid) (filmsOf (k .shelf))) where
-      no-film : any (filmNamed (k .numbers) uid) (filmsOf (k .shelf)) ≡ false
-      no-film = any-place (filmNamed (k .numbers) uid) (filmsOf (k .shelf)) ∙ le-ltb _ _ f
+    module _ (f : length (filmsOf shelf) ≤ placeOf (filmNamed n uid) (filmsOf shelf)) where
+      no-film : any (filmNamed n uid) (filmsOf shelf) ≡ false
+      no-film = any-place (filmNamed n uid) (filmsOf shelf) ∙ le-ltb _ _ f
 
-      pub names-unrooted : beginsWith (rootOf (k .numbers)) uid ≡ false → Nobody ≡ named k uid
-      unfolding named
-      names-unrooted h = rw (s, no-film, never-box (k .numbers) uid (filmsOf (k .shelf)) h)
+      module _ (serial : ℕ) (m : MadeOf (rootOf n) uid serial) (fit : AllFit (filmsOf shelf)) where
+        by-serial : placeOf (boxNamed n uid) (filmsOf shelf) ≡ placeOf (boxSerial serial) (filmsOf shelf)
+        by-serial = film-by-serial n uid serial m (filmsOf shelf) fit
 
-      pub names-nobody : length (filmsOf (k .shelf)) ≤ placeOf (boxNamed (k .numbers) uid) (filmsOf (k .shelf)) → Nobody ≡ named k uid
-      unfolding named
-      names-nobody h = rw (s, no-film, any-place (boxNamed (k .numbers) uid) (filmsOf (k .shelf)), le-ltb _ _ h)
-
-      module _ (i p : ℕ) (at : i ≡ placeOf (boxNamed (k .numbers) uid) (filmsOf (k .shelf))) (h : i < length (filmsOf (k .shelf))) (place : p ≡ placeOf (same uid) (boxUids (k .numbers) (getD (filmsOf (k .shelf)) i noFilm))) where
-        inside : placeOf (boxNamed (k .numbers) uid) (filmsOf (k .shelf)) < length (filmsOf (k .shelf))
-        inside = omega arith
-
-        pub names-box : TheBox i p ≡ named k uid
+        pub names-nobody : length (filmsOf shelf) ≤ placeOf (boxSerial serial) (filmsOf shelf) → Nobody ≡ named k uid
         unfolding named
-        names-box = rw (s, no-film, any-place (boxNamed (k .numbers) uid) (filmsOf (k .shelf)), lt-ltb _ _ inside, place, at)
+        names-nobody h = rw (en, es, ef, other, no-film, any-place (boxNamed n uid) (filmsOf shelf), le-ltb (placeOf (boxNamed n uid) (filmsOf shelf)) (length (filmsOf shelf)) (omega (arith, by-serial, h)))
 
-        pub box-there : p < boxCount (getD (filmsOf (k .shelf)) i noFilm .layout)
-        box-there =
-            let film = getD (filmsOf (k .shelf)) i noFilm in
-            let passes = place-passes (boxNamed (k .numbers) uid) (filmsOf (k .shelf)) noFilm inside in
-            let named-here : boxNamed (k .numbers) uid film ≡ true = ap (λ j. boxNamed (k .numbers) uid (getD (filmsOf (k .shelf)) j noFilm)) at ∙ passes in
-            ltb-true p (boxCount (film .layout)) (box-found (k .numbers) uid film p (boxCount (film .layout)) place refl ∙ named-here)
+        module _ (i : ℕ) (at : i ≡ placeOf (boxSerial serial) (filmsOf shelf)) (h : i < length (filmsOf shelf)) where
+          abbrev film : Film
+          film = getD (filmsOf shelf) i noFilm
+
+          has : boxSerial serial film ≡ true
+          has =
+              ap (λ j. boxSerial serial (getD (filmsOf shelf) j noFilm)) at
+              ∙ place-passes (boxSerial serial) (filmsOf shelf) noFilm (omega (arith, at, h))
+
+          holds : (leb (film .first .0) serial ≡ true) × (ltb (serial - film .first .0) (boxCount (film .layout)) ≡ true)
+          unfolding boxSerial
+          holds = both-true (leb (film .first .0) serial) (ltb (serial - film .first .0) (boxCount (film .layout))) has
+
+          -- the serial is not below the first
+          pub box-from : film .first .0 ≤ serial
+          box-from = leb-true _ _ (holds .0)
+
+          pub names-box : TheBox i (serial - film .first .0) ≡ named k uid
+          unfolding named
+          names-box =
+              let place = box-place n uid serial m film (fit i noFilm h) has in
+              let first : placeOf (boxNamed n uid) (filmsOf shelf) ≡ i = by-serial ∙ sym at in
+              rw (en, es, ef, other, no-film, any-place (boxNamed n uid) (filmsOf shelf), lt-ltb (placeOf (boxNamed n uid) (filmsOf shelf)) (length (filmsOf shelf)) (omega (arith, first, h)), first, place)
+
+          pub box-there : serial - film .first .0 < boxCount (film .layout)
+          box-there = ltb-true _ _ (holds .1)

@@ -12,9 +12,7 @@ use lib.Seq.{drop-cons}
 use borrow.Author.Tests.{lt-ltb, le-ltb, ltb-true, ltb-false}
 use Rattle.choice.specs.Pick.{pick, either}
 use Rattle.octets.specs.Octets.{same}
-use Rattle.octets.proofs.Same.{same-equal}
-use Rattle.uids.specs.Uids.{beginsWith, made}
-use Rattle.uids.proofs.Made.{never-made}
+use Rattle.uids.specs.Uids.{made}
 use Rattle.rules.specs.declared.Film.{Film}
 use Rattle.rules.specs.declared.Numbers.{Numbers}
 use Rattle.rules.specs.Lists.{any, placeOf, from}
@@ -66,32 +64,17 @@ module _ {A : Type 0} (test : A → Bool) where
   place-passes [] d h = absurd (omega arith)
   place-passes (x ∷ xs) d h = found-behind x d (test x) xs refl (place-passes xs d) h
 
+-- two tests that agree on every element
+pub place-alike : {A : Type 0} (test other : A → Bool) (xs : List A) → ((i : ℕ) (d : A) → i < length xs → test (getD xs i d) ≡ other (getD xs i d)) → placeOf test xs ≡ placeOf other xs
+unfolding placeOf
+place-alike test other [] f = refl
+place-alike test other (x ∷ xs) f = rw (f 0 x (omega arith), place-alike test other xs (λ i d h. f (suc i) d (omega arith)))
+
 -- the UIDs made from a serial on
-pub made-count : (root : List ℕ) (first count : ℕ) → length (map (made root) (from first count)) ≡ count
+made-count : (root : List ℕ) (first count : ℕ) → length (map (made root) (from first count)) ≡ count
 unfolding from
 made-count root first zero = refl
 made-count root first (suc count) = ap suc (made-count root (first + 1) count)
-
-pub made-at : (root : List ℕ) (first count i : ℕ) → i < count → getD (map (made root) (from first count)) i [] ≡ made root (first + i)
-unfolding from
-made-at root first zero i h = absurd (omega arith)
-made-at root first (suc count) zero h = ap (made root) (omega arith)
-made-at root first (suc count) (suc i) h = let e : first + 1 + i ≡ first + suc i = omega arith in made-at root (first + 1) count i (omega arith) ∙ ap (made root) e
-
--- a UID that does not begin with the root and a dot is none of them
-never-same : (root uid : List ℕ) (serial : ℕ) → beginsWith root uid ≡ false → (t : Bool) → same uid (made root serial) ≡ t → t ≡ false
-never-same root uid serial n true e = absurd (never-made root serial uid n (same-equal uid (made root serial) e))
-never-same root uid serial n false e = refl
-
-never-any : (root uid : List ℕ) (first count : ℕ) → beginsWith root uid ≡ false → any (same uid) (map (made root) (from first count)) ≡ false
-unfolding any from
-never-any root uid first zero n = refl
-never-any root uid first (suc count) n = rw (never-same root uid first n (same uid (made root first)) refl) (never-any root uid (first + 1) count n)
-
-pub never-box : (n : Numbers) (uid : List ℕ) (films : List Film) → beginsWith (rootOf n) uid ≡ false → any (boxNamed n uid) films ≡ false
-unfolding any boxUids
-never-box n uid [] h = refl
-never-box n uid (f ∷ films) h = rw (never-any (rootOf n) uid (f .first .0) (boxCount (f .layout)) h) (never-box n uid films h)
 
 -- a film has a box of a UID exactly where there is a place for it
 pub box-found : (n : Numbers) (uid : List ℕ) (f : Film) (p count : ℕ) → p ≡ placeOf (same uid) (boxUids n f) → count ≡ boxCount (f .layout) → ltb p count ≡ boxNamed n uid f

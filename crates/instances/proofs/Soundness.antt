@@ -43,7 +43,8 @@ unfolding filmSound
 film-fits n f h e =
     let t = all-true _ e in
     let l = leb-true (f .first .0 + boxCount (f .layout)) (n .serial) (t .1 .1 .1 .1 .1 .0) in
-    omega arith
+    let p = leb-true 1 (f .first .0) (t .1 .1 .1 .1 .0) in
+    (omega arith, omega arith)
 
 module _ (k : Core) (e : coreSound k ≡ true) where
   core-parts : (numbersSound (k .numbers) ≡ true) × (shelfSound (k .numbers) (sessionsOf k) (k .shelf) ≡ true)

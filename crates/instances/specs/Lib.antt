@@ -1,1 +1,2 @@
+pub mod Serials
 pub mod There

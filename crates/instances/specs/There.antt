@@ -16,9 +16,9 @@ There k TheSession = Unit {0}
 There k (TheFilm i) = i < length (filmsOf (k .shelf))
 There k (TheBox i place) = (i < length (filmsOf (k .shelf))) × (place < boxCount (getD (filmsOf (k .shelf)) i noFilm .layout))
 
--- the serials of a film's boxes are below the last
+-- the serials of a film's boxes are above 0 and not above the last
 abbrev pub SerialsFit : Film → Type 0
-SerialsFit f = f .first .0 + boxCount (f .layout) ≤ noneLeft
+SerialsFit f = (0 < f .first .0) × (f .first .0 + boxCount (f .layout) ≤ noneLeft)
 
 abbrev pub AllFit : List Film → Type 0
 AllFit films = (i : ℕ) (d : Film) → i < length films → SerialsFit (getD films i d)

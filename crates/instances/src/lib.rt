@@ -1,50 +1,47 @@
 // Instances: the UID that a name stands for, made or sent, and which class and which instance a UID names.
 use headers::Part;
+use records::AT_FILMS;
+use records::AT_SESSIONS;
+use records::AT_SHELF;
+use records::FILM;
+use records::FILM_FIRST;
+use records::FILM_LAYOUT;
+use records::SERIAL;
 use rules::Class;
-use rules::Core;
-use rules::Film;
 use rules::Instance;
-use rules::Name;
-use rules::Numbers;
 use rules::Operation;
-use rules::SESSIONS;
-use rules::Session;
+use rules::TEXT;
 ghost use mathlib.Core.Path.{_≡_};
 ghost use mathlib.Core.Bool.{true};
-ghost use mathlib.Core.List.{map};
-ghost use Prim.Native.Nat.{_+_, _≤_};
-ghost use lib.ListN.{length, getD, take};
+ghost use Prim.Native.Nat.{_+_, _≤_, _<_};
+ghost use lib.ListN.{length};
 ghost use Rattle.octets.specs.Octets.{same};
-ghost use Rattle.uids.specs.Uids.{beginsWith, made};
-ghost use Rattle.rules.specs.Bounds.{noneLeft};
-ghost use Rattle.rules.specs.Lists.{placeOf, from};
-ghost use Rattle.rules.specs.Records.{rootOf, boxUids, filmNamed, boxNamed, named, noSession, sessionNamed, uidOf};
+ghost use Rattle.uids.specs.Uids.{beginsWith};
+ghost use Rattle.rules.specs.Bounds.{mostFilms, noneLeft};
+ghost use Rattle.rules.specs.Lists.{placeOf};
+ghost use Rattle.rules.specs.Layout.{numbersSize, nameSize, filmSize, recordsSize, nameFormat, filmFormat};
+ghost use Rattle.rules.specs.Records.{rootOf, filmsOf, filmNamed, named, sessionNamed, uidOf};
 ghost use Rattle.rules.specs.Commands.{uidAt};
 ghost use Rattle.rules.specs.declared.Class.the-variants.{Verification, Boxes};
 ghost use Rattle.rules.specs.Checks.{classOf, offers, classPart};
 ghost use Rattle.rules.specs.Sound.{coreSound};
+ghost use Rattle.records.specs.Places.{numbersIn, sessionIn, shelfIn, coreIn};
 ghost use Rattle.commands.specs.Within.{PartIn};
-ghost use Rattle.instances.specs.There.{There, SerialsFit, AllFit};
+ghost use Rattle.instances.specs.There.{There};
+ghost use Rattle.instances.specs.Serials.{told, MadeOf, boxSerial};
 
-// Whether a UID begins with the root and a dot.
-pub fn is_rooted(n: Numbers, uid: &[u8]) -> bool
-    ensures { λ r. ⌜ r ≡ beginsWith (rootOf n) (now (uid .entry)) ⌝ }
+fn wide(b: u8) -> usize
+    ensures { λ r. ⌜ (r ≡ b) × (r < 256) ⌝ }
 {
-    let root = n.root;
-    uids::begins_with(octets::front(&root, n.used as usize), uid)
+    b as usize
 }
 
-// Whether a UID is the one that a name stands for.
-pub fn is_named(n: Numbers, name: Name, uid: &[u8]) -> bool
-    ensures { λ r. ⌜ r ≡ same (now (uid .entry)) (uidOf n name) ⌝ }
+// Whether a UID begins with the root and a dot.
+pub fn is_rooted(b: &[u8], uid: &[u8]) -> bool
+    requires { ⌜ numbersSize ≤ length (now b) ⌝ }
+    ensures { λ r. ⌜ r ≡ beginsWith (rootOf (numbersIn (now (b .entry)))) (now (uid .entry)) ⌝ }
 {
-    let serial = name.made;
-    if serial.0 == 0 {
-        let text = name.text;
-        return octets::same_bytes(uid, octets::front(&text, name.used as usize));
-    }
-    let root = n.root;
-    making::is_made(octets::front(&root, n.used as usize), serial.0, uid)
+    uids::begins_with(records::root_in(b), uid)
 }
 
 pub fn class_of(uid: &[u8]) -> Class
@@ -104,119 +101,144 @@ pub fn offers(class: Class, operation: Operation) -> bool
     }
 }
 
-// The first of the UIDs made from a serial on, `count` of them, that is a UID; `count` where none is.
-fn made_place(root: &[u8], first: u32, count: usize, uid: &[u8]) -> usize
-    requires { ⌜ first + count ≤ noneLeft ⌝ }
-    ensures { λ r. ⌜ r ≡ placeOf (same (now (uid .entry))) (map (made (now (root .entry))) (from first count)) ⌝ }
+// The number that digits tell; of a serial's digits it is the serial.
+fn number_told(s: &[u8]) -> usize
+    ensures { λ r. ⌜ (r ≡ told 0 (now (s .entry))) × (r < noneLeft) ⌝ }
 {
+    let mut v = 0;
     let mut i = 0;
-    while i < count {
-        if making::is_made(root, first + i as u32, uid) {
-            return i;
-        }
+    while i < s.len() {
+        v = (10 * v + wide(s[i]) % 16) % 4294967296;
         i += 1;
     }
-    i
+    v
 }
 
-// The place of the box that a UID names; how many boxes the film has where it names none.
-fn box_place(n: Numbers, f: Film, uid: &[u8]) -> usize
-    requires { ⌜ SerialsFit f ⌝ }
-    ensures { λ r. ⌜ r ≡ placeOf (same (now (uid .entry))) (boxUids n f) ⌝ }
+// The serial that a UID was made of, 0 where it was not made: with it the made UIDs are compared as numbers.
+fn made_serial(b: &[u8], uid: &[u8]) -> usize
+    requires { ⌜ numbersSize ≤ length (now b) ⌝ }
+    ensures { λ r. ⌜ MadeOf (rootOf (numbersIn (now (b .entry)))) (now (uid .entry)) r ⌝ }
 {
-    let root = n.root;
-    let layout = f.layout;
-    let count = layouts::box_count(layout) as usize;
-    let first = f.first;
-    made_place(octets::front(&root, n.used as usize), first.0, count, uid)
-}
-
-// Whether a UID names a box of the film.
-fn has_box(n: Numbers, f: Film, uid: &[u8]) -> bool
-    requires { ⌜ SerialsFit f ⌝ }
-    ensures { λ r. ⌜ r ≡ boxNamed n (now (uid .entry)) f ⌝ }
-{
-    let layout = f.layout;
-    let count = layouts::box_count(layout) as usize;
-    box_place(n, f, uid) < count
-}
-
-// The place of the film that a UID names; `count` where it names none.
-fn film_named(n: Numbers, films: [Film; 8], count: usize, uid: &[u8]) -> usize
-    requires { ⌜ count ≤ 8 ⌝ }
-    ensures { λ r. ⌜ (r ≡ placeOf (filmNamed n (now (uid .entry))) (take count films)) × (length (take count films) ≡ count) ⌝ }
-{
-    let xs = films;
-    let mut i = 0;
-    while i < count {
-        let film = xs[i];
-        let name = film.name;
-        if is_named(n, name, uid) {
-            return i;
-        }
-        i += 1;
+    let root = records::root_in(b);
+    let dot = root.len();
+    if uid.len() <= dot {
+        return 0;
     }
-    i
+    let serial = number_told(&uid[dot + 1..]);
+    if making::is_made(root, serial as u32, uid) {
+        return serial;
+    }
+    0
 }
 
-// The place of the film with the box that a UID names; `count` where it names none.
-fn film_with_box(n: Numbers, films: [Film; 8], count: usize, uid: &[u8]) -> usize
-    requires { ⌜ (count ≤ 8) × AllFit (take count films) ⌝ }
-    ensures { λ r. ⌜ (r ≡ placeOf (boxNamed n (now (uid .entry))) (take count films)) × (length (take count films) ≡ count) ⌝ }
+// Whether a UID, made of this serial if it was made, is the one that the name at a place stands for.
+fn is_name(b: &[u8], p: usize, serial: usize, uid: &[u8]) -> bool
+    requires { ⌜ (numbersSize ≤ length (now b)) × (p + nameSize ≤ length (now b)) × MadeOf (rootOf (numbersIn (now b))) (now uid) serial ⌝ }
+    ensures { λ r. ⌜ r ≡ same (now (uid .entry)) (uidOf (numbersIn (now (b .entry))) (nameFormat .read (now (b .entry)) p)) ⌝ }
 {
-    let xs = films;
-    let mut i = 0;
-    while i < count {
-        let holder = xs[i];
-        if has_box(n, holder, uid) {
-            return i;
-        }
-        i += 1;
+    let made = octets::u32_at(b, p);
+    if made == 0 {
+        let used = p + SERIAL;
+        let text = used + 1;
+        let end = text + TEXT;
+        return octets::same_bytes(uid, octets::front(&b[text..end], wide(b[used])));
     }
-    i
+    made == serial
+}
+
+// Whether a UID is the one that the name at a place stands for.
+pub fn is_named_at(b: &[u8], p: usize, uid: &[u8]) -> bool
+    requires { ⌜ (numbersSize ≤ length (now b)) × (p + nameSize ≤ length (now b)) ⌝ }
+    ensures { λ r. ⌜ r ≡ same (now (uid .entry)) (uidOf (numbersIn (now (b .entry))) (nameFormat .read (now (b .entry)) p)) ⌝ }
+{
+    is_name(b, p, made_serial(b, uid), uid)
 }
 
 // Whether it is that of the session at the only place.
-fn is_session(n: Numbers, places: [Session; SESSIONS], uid: &[u8]) -> bool
-    ensures { λ r. ⌜ r ≡ sessionNamed n (now (uid .entry)) (getD places 0 noSession) ⌝ }
+fn is_session(b: &[u8], serial: usize, uid: &[u8]) -> bool
+    requires { ⌜ (recordsSize ≤ length (now b)) × MadeOf (rootOf (numbersIn (now b))) (now uid) serial ⌝ }
+    ensures { λ r. ⌜ r ≡ sessionNamed (numbersIn (now (b .entry))) (now (uid .entry)) (sessionIn (now (b .entry))) ⌝ }
 {
-    let s = shelves::the_session(places);
-    if s.live == 0 {
+    if b[AT_SESSIONS] == 0 {
         return false;
     }
-    let name = s.name;
-    is_named(n, name, uid)
+    is_name(b, AT_SESSIONS + 1, serial, uid)
+}
+
+// The place of the film that a UID names; how many films there are where it names none.
+fn film_named(b: &[u8], serial: usize, uid: &[u8]) -> usize
+    requires { ⌜ (recordsSize ≤ length (now b)) × (shelfIn (now b) .count ≤ mostFilms) × MadeOf (rootOf (numbersIn (now b))) (now uid) serial ⌝ }
+    ensures { λ r. ⌜ r ≡ placeOf (filmNamed (numbersIn (now (b .entry))) (now (uid .entry))) (filmsOf (shelfIn (now (b .entry)))) ⌝ }
+{
+    let count = wide(b[AT_SHELF]);
+    let mut i = 0;
+    while i < count {
+        if is_name(b, AT_FILMS + i * FILM, serial, uid) {
+            return i;
+        }
+        i += 1;
+    }
+    i
+}
+
+// The serial of the first box of the film at a place.
+fn first_at(b: &[u8], p: usize) -> usize
+    requires { ⌜ p + filmSize ≤ length (now b) ⌝ }
+    ensures { λ r. ⌜ (r ≡ filmFormat .read (now (b .entry)) p .first .0) × (r < noneLeft) ⌝ }
+{
+    octets::u32_at(b, p + FILM_FIRST)
+}
+
+// Whether a serial is that of a box of the film at a place.
+fn has_box(b: &[u8], p: usize, serial: usize) -> bool
+    requires { ⌜ p + filmSize ≤ length (now b) ⌝ }
+    ensures { λ r. ⌜ r ≡ boxSerial serial (filmFormat .read (now (b .entry)) p) ⌝ }
+{
+    let first = first_at(b, p);
+    if serial < first {
+        return false;
+    }
+    serial - first < layouts::box_count_at(b, p + FILM_LAYOUT) as usize
+}
+
+// The place of the film with the box of a serial; how many films there are where none has it.
+fn film_with_box(b: &[u8], serial: usize) -> usize
+    requires { ⌜ (recordsSize ≤ length (now b)) × (shelfIn (now b) .count ≤ mostFilms) ⌝ }
+    ensures { λ r. ⌜ r ≡ placeOf (boxSerial serial) (filmsOf (shelfIn (now (b .entry)))) ⌝ }
+{
+    let count = wide(b[AT_SHELF]);
+    let mut i = 0;
+    while i < count {
+        if has_box(b, AT_FILMS + i * FILM, serial) {
+            return i;
+        }
+        i += 1;
+    }
+    i
 }
 
 // The instance that a UID names.
-pub fn named(k: Core, uid: &[u8]) -> Instance
-    requires { ⌜ coreSound k ≡ true ⌝ }
-    ensures { λ r. ⌜ (r ≡ named k (now (uid .entry))) × There k r ⌝ }
+pub fn named(b: &[u8], uid: &[u8]) -> Instance
+    requires { ⌜ (recordsSize ≤ length (now b)) × (coreSound (coreIn (now b)) ≡ true) ⌝ }
+    ensures { λ r. ⌜ (r ≡ named (coreIn (now (b .entry))) (now (uid .entry))) × There (coreIn (now (b .entry))) r ⌝ }
 {
-    let numbers = k.numbers;
-    let sessions = k.sessions;
-    if is_session(numbers, sessions, uid) {
+    let serial = made_serial(b, uid);
+    if is_session(b, serial, uid) {
         return Instance::TheSession;
     }
-    let shelf = k.shelf;
-    let films = shelf.films;
-    let count = shelf.count as usize;
-    let film = film_named(numbers, films, count, uid);
+    let count = wide(b[AT_SHELF]);
+    let film = film_named(b, serial, uid);
     if film < count {
         return Instance::TheFilm(film);
     }
-    // a box's UID was made
-    if !is_rooted(numbers, uid) {
-        return Instance::Nobody;
-    }
-    let other = film_with_box(numbers, films, count, uid);
+    let other = film_with_box(b, serial);
     if count <= other {
         return Instance::Nobody;
     }
-    let holder = films[other];
+    let first = first_at(b, AT_FILMS + other * FILM);
     Instance::TheBox {
         film: other,
-        place: box_place(numbers, holder, uid),
+        place: serial - first,
     }
 }
 

@@ -2,12 +2,15 @@
 use rules::Layout;
 ghost use mathlib.Core.Bool.{true};
 ghost use mathlib.Core.Path.{_≡_};
-ghost use Prim.Native.Nat.{_<_, _≤_};
+ghost use Prim.Native.Nat.{_+_, _<_, _≤_};
+ghost use lib.Dec.{ltb};
 ghost use lib.ListN.{length, take, replicate};
+ghost use Rattle.choice.specs.Pick.{pick};
 ghost use Rattle.rules.specs.Lists.{sum, filledTo};
 ghost use Rattle.rules.specs.Values.{oneToSix, standard, listed, numbersIn, uneven, kindIn, countsIn};
 ghost use Rattle.rules.specs.Records.{boxCount};
 ghost use Rattle.rules.specs.Attributes.{layoutFrom};
+ghost use Rattle.rules.specs.Layout.{layoutSize, layoutFormat};
 
 fn one_to_six(b: u8) -> bool
     ensures { λ r. ⌜ r ≡ oneToSix b ⌝ }
@@ -182,4 +185,25 @@ pub fn box_count(l: Layout) -> u64
 {
     let counts = l.counts;
     sum_of(counts, l.lines as usize)
+}
+
+// A line's boxes, if it is one of the first lines.
+fn counted(line: u8, lines: u8, boxes: u8) -> u64
+    ensures { λ r. ⌜ (r ≡ pick (ltb line lines) boxes 0) × (r < 256) ⌝ }
+{
+    if line < lines { boxes as u64 } else { 0 }
+}
+
+// The same of a layout that stands at a place. Without a loop: its six lines are looked at at once.
+pub fn box_count_at(s: &[u8], p: usize) -> u64
+    requires { ⌜ p + layoutSize ≤ length (now s) ⌝ }
+    ensures { λ r. ⌜ (r ≡ boxCount (layoutFormat .read (now (s .entry)) p)) × (r ≤ 1530) ⌝ }
+{
+    let lines = s[p + 1];
+    counted(0, lines, s[p + 2])
+        + counted(1, lines, s[p + 3])
+        + counted(2, lines, s[p + 4])
+        + counted(3, lines, s[p + 5])
+        + counted(4, lines, s[p + 6])
+        + counted(5, lines, s[p + 7])
 }

@@ -1,3 +1,4 @@
--- What one turn of each loop does; some tests, one by one.
-pub mod Every
+-- What one turn of the loop does; some tests, one by one; names and numbers by their bytes.
+mod Every
 pub mod Tests
+mod InPlace

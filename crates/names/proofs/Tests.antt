@@ -1,14 +1,13 @@
 -- Tests of a list, one by one: `search tests` finds the way that a return took. Where there are too many for one search,
 -- the first ones are passed by name, `first-passes _ _ _ _ (search tests) (..)`.
 -- Assumes nothing.
-use Prim.Native.Nat.{ℕ, _≤_, _<_}
+use Prim.Native.Nat.{ℕ, _≤_}
 use mathlib.Core.Path.{_≡_, refl, sym, _∙_}
 use mathlib.Core.Bool.{Bool, true, false, not}
 use mathlib.Core.List.{List, [], _∷_}
 use lib.Dec.{leb}
 use borrow.Author.Tests.{lt-ltb, le-ltb, le-leb, lt-leb, eq-eqb, ne-eqb, not-true, not-false}
-use Rattle.choice.specs.Pick.{both}
-use Rattle.choice.proofs.Picks.{both-holds, both-fails, both-only}
+use Rattle.choice.proofs.Picks.{both-only}
 use Rattle.rules.specs.Lists.{every}
 
 module _ {A : Type 0} (test : A → Bool) (x : A) (xs : List A) where
@@ -19,11 +18,6 @@ module _ {A : Type 0} (test : A → Bool) (x : A) (xs : List A) where
   pub first-passes : (r : Bool) → test x ≡ true → r ≡ every test xs → r ≡ every test (x ∷ xs)
   unfolding every
   first-passes r e f = rw e f
-
-  -- though the first may pass
-  pub later-fails : false ≡ every test xs → false ≡ every test (x ∷ xs)
-  unfolding every
-  later-fails e = rw (← e) (sym (both-fails (test x)))
 
 pub last-told : {A : Type 0} (test : A → Bool) (x : A) (r : Bool) → r ≡ test x → r ≡ every test (x ∷ [])
 unfolding every
@@ -45,18 +39,5 @@ module _ (told test : Bool) (e : told ≡ test) where
 module _ (a told b : ℕ) (e : told ≡ b) where
   pub told-most : a ≤ told → leb a b ≡ true
   told-most h = rw (← e) (le-leb a told h)
-
-  pub told-over : told < a → leb a b ≡ false
-  told-over h = rw (← e) (lt-leb a told h)
-
--- two tests in one
-module _ (a b : Bool) where
-  pub one-fails : a ≡ false → both a b ≡ false
-  one-fails e = rw e
-
-  pub other-fails : b ≡ false → both a b ≡ false
-  other-fails e = rw e (both-fails a)
-
-pub ruleset betweens = (both-holds, one-fails, other-fails)
 
 pub ruleset tests = (first-passes, first-fails, last-told, none-left, told-is, told-not, le-leb, lt-leb, lt-ltb, le-ltb, eq-eqb, ne-eqb)

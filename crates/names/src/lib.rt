@@ -1,17 +1,26 @@
-// Names: names and numbers, tested by the records' rules.
-use rules::Name;
-use rules::Numbers;
+// Names: names and numbers, tested by the records' rules where they stand.
+use records::AT_PICTURE;
+use records::AT_SERIAL;
+use records::NAME;
+use records::SERIAL;
+use rules::ROOT;
+use rules::TEXT;
 ghost use mathlib.Core.Path.{_≡_};
-ghost use lib.ListN.{take, drop};
-ghost use Rattle.uids.specs.Uids.{isUid, beginsWith};
-ghost use Rattle.rules.specs.Sound.{zeros, nameBlank, sentSound, madeSound, nameSound, numbersSound};
+ghost use Prim.Native.Nat.{_+_, _-_, _≤_, _<_};
+ghost use lib.ListN.{length, take, drop};
+ghost use Rattle.octets.specs.Octets.{numberAt};
+ghost use Rattle.rules.specs.Layout.{nameSize, numbersSize, nameFormat};
+ghost use Rattle.rules.specs.Records.{rootOf};
+ghost use Rattle.rules.specs.Bounds.{noneLeft};
+ghost use Rattle.rules.specs.Sound.{between, zeros, sentSound, nameSound, numbersSound};
+ghost use Rattle.records.specs.Places.{numbersIn};
 
-// Whether all bytes from a place on are zeros. The loop has no other way out, so that it is compiled to many bytes at once.
-pub fn zeros_from(s: &[u8], from: usize) -> bool
-    ensures { λ r. ⌜ r ≡ zeros (drop from (now (s .entry))) ⌝ }
+// The loop has no other way out, so that it is compiled to many bytes at once.
+fn all_zero(s: &[u8]) -> bool
+    ensures { λ r. ⌜ r ≡ zeros (now (s .entry)) ⌝ }
 {
     let mut clear = true;
-    let mut i = from;
+    let mut i = 0;
     while i < s.len() {
         if s[i] != 0 {
             clear = false;
@@ -21,118 +30,92 @@ pub fn zeros_from(s: &[u8], from: usize) -> bool
     clear
 }
 
-pub fn all_zero(s: &[u8]) -> bool
-    ensures { λ r. ⌜ r ≡ zeros (now (s .entry)) ⌝ }
+// Whether the bytes from a place up to another are zeros.
+pub fn zeros_in(b: &[u8], from: usize, stop: usize) -> bool
+    requires { ⌜ (from ≤ stop) × (stop ≤ length (now b)) ⌝ }
+    ensures { λ r. ⌜ r ≡ zeros (take (stop - from) (drop from (now (b .entry)))) ⌝ }
 {
-    zeros_from(s, 0)
+    all_zero(&b[from..stop])
 }
 
-// Whether the first n bytes are a UID.
-fn begins_uid(s: &[u8], n: usize) -> bool
-    ensures { λ r. ⌜ r ≡ isUid (take n (now (s .entry))) ⌝ }
+// A next number, of five bytes: without a loop, as octets::u32_at.
+pub fn next_at(b: &[u8], at: usize) -> u64
+    requires { ⌜ at + 5 ≤ length (now b) ⌝ }
+    ensures { λ r. ⌜ (r ≡ numberAt 5 (now (b .entry)) at) × (r < 1099511627776) ⌝ }
 {
-    let m = distinct::within(s, n);
-    uids::is_uid(&s[0..m])
-}
-
-// Whether the first n bytes of a text begin with a root's first k and a dot.
-fn rooted(root: &[u8], k: usize, text: &[u8], n: usize) -> bool
-    ensures { λ r. ⌜ r ≡ beginsWith (take k (now (root .entry))) (take n (now (text .entry))) ⌝ }
-{
-    let a = distinct::within(root, k);
-    let b = distinct::within(text, n);
-    uids::begins_with(&root[0..a], &text[0..b])
-}
-
-pub fn name_blank(name: Name) -> bool
-    ensures { λ r. ⌜ r ≡ nameBlank name ⌝ }
-{
-    let made = name.made;
-    if made.0 != 0 {
-        return false;
-    }
-    if name.used != 0 {
-        return false;
-    }
-    let text = name.text;
-    all_zero(&text)
-}
-
-// A made UID.
-fn made_sound(n: Numbers, name: Name) -> bool
-    ensures { λ r. ⌜ r ≡ madeSound n name ⌝ }
-{
-    let made = name.made;
-    if n.serial <= made.0 as u64 {
-        return false;
-    }
-    if name.used != 0 {
-        return false;
-    }
-    let text = name.text;
-    all_zero(&text)
+    let high = b[at + 4] as u64;
+    octets::u32_at(b, at) as u64 + 4294967296 * high
 }
 
 // A sent UID.
-fn sent_sound(n: Numbers, name: Name) -> bool
-    ensures { λ r. ⌜ r ≡ sentSound n name ⌝ }
+fn sent_sound(b: &[u8], p: usize) -> bool
+    requires { ⌜ (numbersSize ≤ length (now b)) × (p + nameSize ≤ length (now b)) ⌝ }
+    ensures { λ r. ⌜ r ≡ sentSound (numbersIn (now (b .entry))) (nameFormat .read (now (b .entry)) p) ⌝ }
 {
-    let used = name.used as usize;
+    let used = b[p + SERIAL] as usize;
     if used < 1 {
         return false;
     }
-    if 64 < used {
+    if TEXT < used {
         return false;
     }
-    let text = name.text;
-    if !begins_uid(&text, used) {
+    let text = p + SERIAL + 1;
+    let uid = &b[text..text + used];
+    if !uids::is_uid(uid) {
         return false;
     }
-    let root = n.root;
-    if rooted(&root, n.used as usize, &text, used) {
+    if uids::begins_with(records::root_in(b), uid) {
         return false;
     }
-    zeros_from(&text, used)
+    zeros_in(b, text + used, text + TEXT)
 }
 
-pub fn name_sound(n: Numbers, name: Name) -> bool
-    ensures { λ r. ⌜ r ≡ nameSound n name ⌝ }
+// A made UID has a serial below the next, and no characters.
+pub fn name_sound(b: &[u8], p: usize) -> bool
+    requires { ⌜ (numbersSize ≤ length (now b)) × (p + nameSize ≤ length (now b)) ⌝ }
+    ensures { λ r. ⌜ r ≡ nameSound (numbersIn (now (b .entry))) (nameFormat .read (now (b .entry)) p) ⌝ }
 {
-    let made = name.made;
-    if made.0 == 0 {
-        return sent_sound(n, name);
+    let made = octets::u32_at(b, p) as u64;
+    if made == 0 {
+        return sent_sound(b, p);
     }
-    made_sound(n, name)
+    if next_at(b, AT_SERIAL) <= made {
+        return false;
+    }
+    zeros_in(b, p + SERIAL, p + NAME)
 }
 
-pub fn numbers_sound(n: Numbers) -> bool
-    ensures { λ r. ⌜ r ≡ numbersSound n ⌝ }
+// Whether a next number is one: 1 to 4294967296, which says that none is left.
+fn next_sound(b: &[u8], at: usize) -> bool
+    requires { ⌜ at + 5 ≤ length (now b) ⌝ }
+    ensures { λ r. ⌜ r ≡ between 1 noneLeft (numberAt 5 (now (b .entry)) at) ⌝ }
 {
-    let used = n.used as usize;
+    let next = next_at(b, at);
+    if next < 1 {
+        return false;
+    }
+    next <= 4294967296
+}
+
+pub fn numbers_sound(b: &[u8]) -> bool
+    requires { ⌜ numbersSize ≤ length (now b) ⌝ }
+    ensures { λ r. ⌜ r ≡ numbersSound (numbersIn (now (b .entry))) ⌝ }
+{
+    let used = b[0] as usize;
     if used < 1 {
         return false;
     }
-    if 40 < used {
+    if ROOT < used {
         return false;
     }
-    let root = n.root;
-    if !begins_uid(&root, used) {
+    if !uids::is_uid(records::root_in(b)) {
         return false;
     }
-    if !zeros_from(&root, used) {
+    if !zeros_in(b, 1 + used, 1 + ROOT) {
         return false;
     }
-    if n.serial < 1 {
+    if !next_sound(b, AT_SERIAL) {
         return false;
     }
-    if 4294967296 < n.serial {
-        return false;
-    }
-    if n.picture < 1 {
-        return false;
-    }
-    if 4294967296 < n.picture {
-        return false;
-    }
-    true
+    next_sound(b, AT_PICTURE)
 }

@@ -1,28 +1,31 @@
 -- A call is refused by the number of the first rule that it breaks, or is done: a law for each way out of start, open and close.
 -- Assumes nothing.
-use Prim.Native.Nat.{ℕ, _<_, _≤_, _%_}
-use mathlib.Core.Path.{_≡_, refl, sym, _∙_}
+use Prim.Native.Nat.{ℕ, _+_, _<_, _≤_, _%_}
+use mathlib.Core.Path.{_≡_, refl, sym, ap, _∙_}
 use mathlib.Core.Bool.{Bool, true, false}
 use mathlib.Core.List.{List, []}
 use native.Mathlib.Omega.{arith}
 use lib.Dec.{eqb, ltb}
-use lib.ListN.{length}
+use lib.ListN.{length, getD}
 use borrow.Author.Tests.{eq-eqb, ne-eqb, le-ltb, lt-ltb, ltb-false, eqb-true}
 use Rattle.choice.specs.Pick.{pick, both, either, not}
 use Rattle.choice.specs.Rules.{Rule, firstBroken, numbered}
 use Rattle.choice.proofs.Picks.{either-false, clash}
 use Rattle.choice.proofs.Broken.{first-by-number, first-refused, first-unbroken, none-broken}
+use Rattle.octets.specs.Octets.{numberAt}
 use Rattle.uids.specs.Uids.{isUid}
 use Rattle.strike.specs.Service.{Call, start, opening, close, passes, refuses}
 use Rattle.strike.specs.Machine.{idle, Records, checked, step}
+use Rattle.rules.specs.declared.Opened.{Opened}
 use Rattle.rules.specs.declared.Core.{Core}
-use Rattle.rules.specs.declared.State.{State}
 use Rattle.rules.specs.Bounds.{leastRoom, mostRoom, rootLimit}
 use Rattle.rules.specs.Records.{isOpen}
-use Rattle.rules.specs.Layout.{recordsSize, unpack}
+use Rattle.rules.specs.Layout.{recordsSize, openedFormat, unpack}
 use Rattle.rules.specs.Calls.{Starting, Opening, handed, badContext, badSyntax, startRules, openRules, rulesOf, check, started, opened, closed, printing}
 use Rattle.rules.specs.Outcomes.{recordsIn, written, numberOf, shortRules, recordsRules, Outcome, changed, unchanged, orUnchanged, called, starts, opens, closes}
-use Rattle.soundness.proofs.Records.{Found}
+use Rattle.rules.proofs.Accepted.{long-enough}
+use Rattle.records.specs.Places.{openedPlace, coreIn}
+use Rattle.records.proofs.Parts.{unpack-core, core-opened}
 use Rattle.runs.specs.Host.{startHanded, openHanded}
 
 -- What start, open and close come to, by the rules for the records and by their own.
@@ -91,24 +94,39 @@ pub close-unread : (b : List ℕ) (n : ℕ) → n ≡ firstBroken (recordsRules 
 unfolding closes
 close-unread b = called-unread (recordsRules b) b close refl
 
-module _ {b : List ℕ} {s : State} (f : Found b s) where
-  pub open-refused : (h : Opening) (n : ℕ) → n ≡ firstBroken (openRules (s .core) h) → (n ≡ 0 → ⊥) → unchanged b n ≡ opens b h
-  unfolding opens checked numberOf
-  open-refused h n e = called-refused (recordsRules b) b (opening h) refl (f .unbroken) refl refl n (rw (f .same) at e)
+-- what open fixed, read where it stands
+pub live-in : (b : List ℕ) → coreIn b .opened .live ≡ getD b openedPlace 0
+unfolding openedFormat
+live-in b = ap (λ (x : Opened). x .live) (core-opened b)
 
-  pub open-done : (h : Opening) → firstBroken (openRules (s .core) h) ≡ 0 → freshly (opened (s .core) h) b ≡ opens b h
-  unfolding opens checked numberOf
-  open-done h e = rw (f .same) (called-done (recordsRules b) b (opening h) refl (f .unbroken) refl refl (rw (f .same) at e))
+pub room-in : (b : List ℕ) → coreIn b .opened .room ≡ numberAt 4 b (openedPlace + 3)
+unfolding openedFormat
+room-in b = ap (λ (x : Opened). x .room) (core-opened b)
 
-  pub close-refused : s .core .opened .live ≡ 0 → unchanged b 4 ≡ closes b
+module _ (b : List ℕ) (unbroken : firstBroken (recordsRules b) ≡ 0) where
+  pub accepted-long : recordsSize ≤ length b
+  accepted-long = long-enough b (none-broken (recordsRules b) refl unbroken)
+
+  pub open-refused : (h : Opening) (n : ℕ) → n ≡ firstBroken (openRules (coreIn b) h) → (n ≡ 0 → ⊥) → unchanged b n ≡ opens b h
+  unfolding opens checked numberOf
+  open-refused h n e = called-refused (recordsRules b) b (opening h) refl unbroken refl refl n (rw (← unpack-core b) at e)
+
+  pub open-done : (h : Opening) → firstBroken (openRules (coreIn b) h) ≡ 0 → freshly (opened (coreIn b) h) b ≡ opens b h
+  unfolding opens checked numberOf
+  open-done h e = rw (← unpack-core b) (called-done (recordsRules b) b (opening h) refl unbroken refl refl (rw (← unpack-core b) at e))
+
+  is-live : unpack b .core .opened .live ≡ getD b openedPlace 0
+  is-live = ap (λ (k : Core). k .opened .live) (unpack-core b) ∙ live-in b
+
+  pub close-refused : getD b openedPlace 0 ≡ 0 → unchanged b 4 ≡ closes b
   unfolding closes checked numberOf
   close-refused e =
-      called-refused (recordsRules b) b close refl (f .unbroken) refl refl 4
-      (rw (eq-eqb (unpack b .core .opened .live) 0 (rw (f .same) at e))) (λ z. omega (arith, z))
+      called-refused (recordsRules b) b close refl unbroken refl refl 4
+      (rw (eq-eqb (unpack b .core .opened .live) 0 (is-live ∙ e))) (λ z. omega (arith, z))
 
-  pub close-done : (s .core .opened .live ≡ 0 → ⊥) → freshly (closed (s .core)) b ≡ closes b
+  pub close-done : (getD b openedPlace 0 ≡ 0 → ⊥) → freshly (closed (coreIn b)) b ≡ closes b
   unfolding closes checked numberOf
-  close-done d = rw (f .same) (called-done (recordsRules b) b close refl (f .unbroken) refl refl (rw (ne-eqb (unpack b .core .opened .live) 0 (rw (f .same) at d))))
+  close-done d = rw (← unpack-core b) (called-done (recordsRules b) b close refl unbroken refl refl (rw (ne-eqb (unpack b .core .opened .live) 0 (λ z. d (sym is-live ∙ z)))))
 
 pub either-none : (t : Bool) → either t false ≡ t
 either-none true = refl

@@ -1,2 +1,3 @@
--- A call by the number of the first rule that it breaks.
+-- A call by the number of the first rule that it breaks; what is not there, in zeros.
 mod Answers
+mod Blank

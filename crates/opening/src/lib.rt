@@ -1,44 +1,57 @@
 // Opening: start, open and close.
+use records::AT_INPUT;
+use records::AT_OPENED;
+use records::AT_QUEUE;
+use records::AT_ROOM;
+use records::AT_SESSIONS;
 use records::RECORDS;
 use rules::Core;
-use rules::Input;
 use rules::Numbers;
 use rules::Opened;
-use rules::State;
 ghost use mathlib.Core.Path.{_≡_};
-ghost use Prim.Native.Nat.{_<_, _≤_};
-ghost use lib.ListN.{length};
+ghost use Prim.Native.Nat.{_-_, _<_, _≤_};
+ghost use lib.ListN.{length, replicate};
 ghost use Rattle.choice.specs.Rules.{firstBroken};
+ghost use Rattle.octets.specs.Octets.{laid};
+ghost use Rattle.fields.specs.Format.{write};
+ghost use Rattle.strike.specs.Machine.{idle};
 ghost use Rattle.rules.specs.Bounds.{rootLimit};
 ghost use Rattle.rules.specs.Lists.{filledTo};
-ghost use Rattle.strike.specs.Machine.{idle};
-ghost use Rattle.rules.specs.Calls.{badRoot, badNumber, messageWrong, badContext, badSyntax, startRules, openRules, started, opened};
-ghost use Rattle.rules.specs.Layout.{recordsSize};
+ghost use Rattle.rules.specs.Layout.{coreSize, recordsSize, inputFormat};
+ghost use Rattle.rules.specs.Calls.{badRoot, badNumber, messageWrong, badContext, badSyntax, startRules, openRules, started, opened, closed};
 ghost use Rattle.rules.specs.Outcomes.{inputHeld, written};
+ghost use Rattle.records.specs.Places.{coreIn};
 ghost use Rattle.runs.specs.Host.{startHanded, openHanded};
 ghost use Rattle.runs.specs.Contracts.{StartMet, OpenMet, CloseMet};
 
 // The records afterwards.
 
-pub fn no_input() -> Input
-    ensures { λ r. ⌜ r ≡ inputHeld idle ⌝ }
+fn put_zeros(s: &mut [u8], from: usize, end: usize)
+    requires { ⌜ (from ≤ end) × (end ≤ length (now s)) ⌝ }
+    ensures { λ _. ⌜ now (s .exit) ≡ laid (now (s .entry)) from (replicate (end - from) 0) ⌝ }
 {
-    Input {
-        phase: 0,
-        used: 0,
-        got: 0,
-        command: [0; 1024],
+    let mut i = from;
+    while i < end {
+        s[i] = 0;
+        i += 1;
     }
 }
 
+// No message half collected.
+pub fn put_no_input(records: &mut [u8])
+    requires { ⌜ recordsSize ≤ length (now records) ⌝ }
+    ensures { λ _. ⌜ now (records .exit) ≡ write inputFormat (inputHeld idle) (now (records .entry)) coreSize ⌝ }
+{
+    put_zeros(records, AT_INPUT, RECORDS);
+}
+
 // Another core with no message half collected.
-pub fn put_core(records: &mut [u8], core: Core)
+fn put_core(records: &mut [u8], core: Core)
     requires { ⌜ recordsSize ≤ length (now records) ⌝ }
     ensures { λ _. ⌜ now (records .exit) ≡ written (record { core = core; input = idle }) (now (records .entry)) ⌝ }
 {
-    let input = no_input();
-    let state = State { core, input };
-    records::put_state(records, 0, state);
+    records::put_core(records, 0, core);
+    put_no_input(records);
 }
 
 // Start.
@@ -131,8 +144,9 @@ pub fn start(records: &mut [u8], root: &[u8], serial: u32, picture: u32) -> u32
 // Open.
 
 // "the message buffer is out of limits or, while open, of another length"
-pub fn message_wrong(k: Core, room: usize) -> bool
-    ensures { λ r. ⌜ r ≡ messageWrong k room ⌝ }
+pub fn message_wrong(records: &[u8], room: usize) -> bool
+    requires { ⌜ recordsSize ≤ length (now records) ⌝ }
+    ensures { λ r. ⌜ r ≡ messageWrong (coreIn (now (records .entry))) room ⌝ }
 {
     if room < 4096 {
         return true;
@@ -140,11 +154,10 @@ pub fn message_wrong(k: Core, room: usize) -> bool
     if 16777216 < room {
         return true;
     }
-    let opened = k.opened;
-    if opened.live == 0 {
+    if records[AT_OPENED] == 0 {
         return false;
     }
-    if room == opened.room as usize {
+    if room == octets::u32_at(records, AT_ROOM) {
         return false;
     }
     true
@@ -171,10 +184,11 @@ fn syntax_bad(n: u32) -> bool
     true
 }
 
-fn open_refusal(k: Core, room: usize, context: u32, syntax: u32) -> u32
-    ensures { λ r. ⌜ r ≡ firstBroken (openRules k (openHanded context syntax room)) ⌝ }
+fn open_refusal(records: &[u8], room: usize, context: u32, syntax: u32) -> u32
+    requires { ⌜ recordsSize ≤ length (now records) ⌝ }
+    ensures { λ r. ⌜ r ≡ firstBroken (openRules (coreIn (now (records .entry))) (openHanded context syntax room)) ⌝ }
 {
-    if message_wrong(k, room) {
+    if message_wrong(records, room) {
         return 2;
     }
     if context_bad(context) {
@@ -183,54 +197,62 @@ fn open_refusal(k: Core, room: usize, context: u32, syntax: u32) -> u32
     if syntax_bad(syntax) {
         return 3;
     }
-    let opened = k.opened;
-    if opened.live != 0 {
+    if records[AT_OPENED] != 0 {
         return 3;
     }
     0
 }
 
-fn opened(k: Core, room: usize, context: u32, syntax: u32) -> Core
-    requires { ⌜ (room < 4294967296) × (context < 256) × (syntax < 256) ⌝ }
-    ensures { λ r. ⌜ r ≡ opened k (openHanded context syntax room) ⌝ }
+fn put_open(records: &mut [u8], room: usize, context: u32, syntax: u32)
+    requires { ⌜ (recordsSize ≤ length (now records)) × (room < 4294967296) × (context < 256) × (syntax < 256) ⌝ }
+    ensures { λ _. ⌜ now (records .exit) ≡ written (record { core = opened (coreIn (now (records .entry))) (openHanded context syntax room); input = idle }) (now (records .entry)) ⌝ }
 {
-    shelves::opened(k, context as u8, syntax as u8, room as u32)
+    let fixed = Opened {
+        live: 1,
+        context: context as u8,
+        syntax: syntax as u8,
+        room: room as u32,
+    };
+    records::put_opened(records, AT_OPENED, fixed);
+    put_no_input(records);
 }
 
 pub fn open(records: &mut [u8], message: &[u8], context: u32, syntax: u32) -> u32
     ensures { λ r. ⌜ OpenMet (now (records .entry)) (now (message .entry)) context syntax r (now (records .exit)) ⌝ }
 {
-    let found = soundness::unpack_checked(records);
-    if found.refusal != 0 {
-        return found.refusal;
+    let unread = soundness::refusal(records);
+    if unread != 0 {
+        return unread;
     }
-    let state = found.state;
-    let core = state.core;
-    let refusal = open_refusal(core, message.len(), context, syntax);
+    let refusal = open_refusal(records, message.len(), context, syntax);
     if refusal != 0 {
         return refusal;
     }
-    let now_open = opened(core, message.len(), context, syntax);
-    put_core(records, now_open);
+    put_open(records, message.len(), context, syntax);
     0
 }
 
 // Close.
 
+// "Close drops session, films, boxes and input; queue and next numbers stay."
+pub fn put_closed(records: &mut [u8])
+    requires { ⌜ recordsSize ≤ length (now records) ⌝ }
+    ensures { λ _. ⌜ now (records .exit) ≡ written (record { core = closed (coreIn (now (records .entry))); input = idle }) (now (records .entry)) ⌝ }
+{
+    put_zeros(records, AT_SESSIONS, AT_QUEUE);
+    put_zeros(records, AT_OPENED, RECORDS);
+}
+
 pub fn close(records: &mut [u8]) -> u32
     ensures { λ r. ⌜ CloseMet (now (records .entry)) r (now (records .exit)) ⌝ }
 {
-    let found = soundness::unpack_checked(records);
-    if found.refusal != 0 {
-        return found.refusal;
+    let unread = soundness::refusal(records);
+    if unread != 0 {
+        return unread;
     }
-    let state = found.state;
-    let core = state.core;
-    let opened = core.opened;
-    if opened.live == 0 {
+    if records[AT_OPENED] == 0 {
         return 4;
     }
-    let left = shelves::closed(core);
-    put_core(records, left);
+    put_closed(records);
     0
 }

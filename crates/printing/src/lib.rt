@@ -113,7 +113,7 @@ fn boxes_collide(a: [ImageBox; 36], n: usize) -> bool
 }
 
 // "two filled boxes of one film at one position"
-pub fn film_collides(f: Film) -> bool
+fn film_collides(f: Film) -> bool
     ensures { λ r. ⌜ r ≡ collides f ⌝ }
 {
     let boxes = f.boxes;
@@ -174,7 +174,7 @@ fn copies_at(places: [Session; SESSIONS], i: usize) -> u8
 }
 
 // "thirty-six picture numbers in position order (0 empty), the film's UID, copies and a ticket"
-pub fn entry_of(k: Core, ticket: u16, f: Film) -> Entry
+fn entry_of(k: Core, ticket: u16, f: Film) -> Entry
     ensures { λ r. ⌜ r ≡ entryOf k ticket f ⌝ }
 {
     let boxes = f.boxes;

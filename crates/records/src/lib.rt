@@ -1,4 +1,5 @@
 // Records: the records' structs, read from their bytes and written to them, as the book's formats say.
+use headers::Syntax;
 use rules::BOXES;
 use rules::COMMAND;
 use rules::Core;
@@ -7,7 +8,6 @@ use rules::Entry;
 use rules::FILMS;
 use rules::Film;
 use rules::ImageBox;
-use rules::Input;
 use rules::LINES;
 use rules::Layout;
 use rules::Name;
@@ -20,14 +20,15 @@ use rules::SESSIONS;
 use rules::Serial;
 use rules::Session;
 use rules::Shelf;
-use rules::State;
 use rules::TEXT;
 ghost use mathlib.Core.Path.{_≡_};
 ghost use Prim.Native.Nat.{_+_, _*_, _≤_};
 ghost use lib.ListN.{length};
 ghost use Rattle.fields.specs.Format.{write, array};
 ghost use Rattle.rules.specs.Bounds.{mostSessions, mostFilms, mostBoxes, mostEntries};
-ghost use Rattle.rules.specs.Layout.{serialSize, pictureSize, nameSize, boxSize, layoutSize, sessionSize, numbersSize, openedSize, inputSize, filmSize, shelfSize, entrySize, queueSize, coreSize, recordsSize, serialFormat, pictureFormat, nameFormat, boxFormat, layoutFormat, sessionFormat, numbersFormat, openedFormat, inputFormat, filmFormat, shelfFormat, entryFormat, queueFormat, coreFormat, stateFormat};
+ghost use Rattle.rules.specs.Records.{rootOf, syntaxIn};
+ghost use Rattle.records.specs.Places.{numbersIn, coreIn};
+ghost use Rattle.rules.specs.Layout.{recordsSize, serialSize, pictureSize, nameSize, boxSize, layoutSize, sessionSize, numbersSize, openedSize, filmSize, shelfSize, entrySize, queueSize, coreSize, serialFormat, pictureFormat, nameFormat, boxFormat, layoutFormat, sessionFormat, numbersFormat, openedFormat, filmFormat, shelfFormat, entryFormat, queueFormat, coreFormat};
 
 // How many bytes each has: its fields, one behind the other.
 pub const SERIAL: usize = 4;
@@ -64,6 +65,44 @@ pub const CORE: usize = NUMBERS + PLACES + SHELF + QUEUE + OPENED;
 
 pub const RECORDS: usize = CORE + INPUT;
 
+// Where each part stands, and in the numbers the next ones.
+pub const AT_SERIAL: usize = 1 + ROOT;
+
+pub const AT_PICTURE: usize = AT_SERIAL + 5;
+
+pub const AT_SESSIONS: usize = NUMBERS;
+
+pub const AT_SHELF: usize = AT_SESSIONS + PLACES;
+
+pub const AT_FILMS: usize = AT_SHELF + 1;
+
+pub const AT_QUEUE: usize = AT_SHELF + SHELF;
+
+pub const AT_ENTRIES: usize = AT_QUEUE + 1;
+
+pub const AT_OPENED: usize = AT_QUEUE + QUEUE;
+
+pub const AT_INPUT: usize = CORE;
+
+// In what open fixed, in the input, and in a film.
+pub const AT_CONTEXT: usize = AT_OPENED + 1;
+
+pub const AT_SYNTAX: usize = AT_CONTEXT + 1;
+
+pub const AT_ROOM: usize = AT_SYNTAX + 1;
+
+pub const AT_USED: usize = AT_INPUT + 1;
+
+pub const AT_GOT: usize = AT_USED + 2;
+
+pub const AT_COMMAND: usize = AT_GOT + 4;
+
+pub const FILM_LAYOUT: usize = NAME + 1;
+
+pub const FILM_FIRST: usize = FILM_LAYOUT + LAYOUT + 1 + 1;
+
+pub const FILM_BOXES: usize = FILM_FIRST + SERIAL;
+
 // An entry that is taken: where its ticket, copies and UID stand behind the pictures, and its end.
 pub const TAKEN_TICKET: usize = PICTURES;
 
@@ -73,35 +112,51 @@ pub const TAKEN_UID: usize = TAKEN_COPIES + 2;
 
 pub const TAKEN: usize = TAKEN_UID + TEXT;
 
-pub fn serial_at(s: &[u8], p: usize) -> Serial
+// The root's characters.
+pub fn root_in(b: &[u8]) -> &[u8]
+    requires { ⌜ numbersSize ≤ length (now b) ⌝ }
+    ensures { λ r. ⌜ now r ≡ rootOf (numbersIn (now (b .entry))) ⌝ }
+{
+    octets::front(&b[1..AT_SERIAL], b[0] as usize)
+}
+
+// The syntax that open fixed.
+pub fn syntax_in(b: &[u8]) -> Syntax
+    requires { ⌜ recordsSize ≤ length (now b) ⌝ }
+    ensures { λ r. ⌜ r ≡ syntaxIn (coreIn (now (b .entry))) ⌝ }
+{
+    headers::syntax_of(b[AT_SYNTAX])
+}
+
+fn serial_at(s: &[u8], p: usize) -> Serial
     requires { ⌜ p + serialSize ≤ length (now s) ⌝ }
     ensures { λ r. ⌜ r ≡ serialFormat .read (now (s .entry)) p ⌝ }
 {
     Serial(fields::u32_at(s, p))
 }
 
-pub fn put_serial(s: &mut [u8], p: usize, x: Serial)
+fn put_serial(s: &mut [u8], p: usize, x: Serial)
     requires { ⌜ p + serialSize ≤ length (now s) ⌝ }
     ensures { λ _. ⌜ now (s .exit) ≡ write serialFormat x (now (s .entry)) p ⌝ }
 {
     fields::put_number(s, p, 4, x.0 as u64);
 }
 
-pub fn picture_at(s: &[u8], p: usize) -> Picture
+fn picture_at(s: &[u8], p: usize) -> Picture
     requires { ⌜ p + pictureSize ≤ length (now s) ⌝ }
     ensures { λ r. ⌜ r ≡ pictureFormat .read (now (s .entry)) p ⌝ }
 {
     Picture(fields::u32_at(s, p))
 }
 
-pub fn put_picture(s: &mut [u8], p: usize, x: Picture)
+fn put_picture(s: &mut [u8], p: usize, x: Picture)
     requires { ⌜ p + pictureSize ≤ length (now s) ⌝ }
     ensures { λ _. ⌜ now (s .exit) ≡ write pictureFormat x (now (s .entry)) p ⌝ }
 {
     fields::put_number(s, p, 4, x.0 as u64);
 }
 
-pub fn name_at(s: &[u8], p: usize) -> Name
+fn name_at(s: &[u8], p: usize) -> Name
     requires { ⌜ p + nameSize ≤ length (now s) ⌝ }
     ensures { λ r. ⌜ r ≡ nameFormat .read (now (s .entry)) p ⌝ }
 {
@@ -113,7 +168,7 @@ pub fn name_at(s: &[u8], p: usize) -> Name
     Name { made, used, text }
 }
 
-pub fn put_name(s: &mut [u8], p: usize, x: Name)
+fn put_name(s: &mut [u8], p: usize, x: Name)
     requires { ⌜ p + nameSize ≤ length (now s) ⌝ }
     ensures { λ _. ⌜ now (s .exit) ≡ write nameFormat x (now (s .entry)) p ⌝ }
 {
@@ -154,7 +209,7 @@ pub fn put_image_box(s: &mut [u8], p: usize, x: ImageBox)
     put_picture(s, p2, picture);
 }
 
-pub fn layout_at(s: &[u8], p: usize) -> Layout
+fn layout_at(s: &[u8], p: usize) -> Layout
     requires { ⌜ p + layoutSize ≤ length (now s) ⌝ }
     ensures { λ r. ⌜ r ≡ layoutFormat .read (now (s .entry)) p ⌝ }
 {
@@ -170,7 +225,7 @@ pub fn layout_at(s: &[u8], p: usize) -> Layout
     }
 }
 
-pub fn put_layout(s: &mut [u8], p: usize, x: Layout)
+fn put_layout(s: &mut [u8], p: usize, x: Layout)
     requires { ⌜ p + layoutSize ≤ length (now s) ⌝ }
     ensures { λ _. ⌜ now (s .exit) ≡ write layoutFormat x (now (s .entry)) p ⌝ }
 {
@@ -286,7 +341,7 @@ pub fn numbers_at(s: &[u8], p: usize) -> Numbers
     }
 }
 
-pub fn put_numbers(s: &mut [u8], p: usize, x: Numbers)
+fn put_numbers(s: &mut [u8], p: usize, x: Numbers)
     requires { ⌜ p + numbersSize ≤ length (now s) ⌝ }
     ensures { λ _. ⌜ now (s .exit) ≡ write numbersFormat x (now (s .entry)) p ⌝ }
 {
@@ -302,7 +357,7 @@ pub fn put_numbers(s: &mut [u8], p: usize, x: Numbers)
     fields::put_number(s, p4, 2, x.ticket as u64);
 }
 
-pub fn opened_at(s: &[u8], p: usize) -> Opened
+fn opened_at(s: &[u8], p: usize) -> Opened
     requires { ⌜ p + openedSize ≤ length (now s) ⌝ }
     ensures { λ r. ⌜ r ≡ openedFormat .read (now (s .entry)) p ⌝ }
 {
@@ -332,39 +387,6 @@ pub fn put_opened(s: &mut [u8], p: usize, x: Opened)
     fields::put_byte(s, p2, x.syntax);
     let p3 = p2 + 1;
     fields::put_number(s, p3, 4, x.room as u64);
-}
-
-pub fn input_at(s: &[u8], p: usize) -> Input
-    requires { ⌜ p + inputSize ≤ length (now s) ⌝ }
-    ensures { λ r. ⌜ r ≡ inputFormat .read (now (s .entry)) p ⌝ }
-{
-    let phase = s[p];
-    let p1 = p + 1;
-    let used = fields::u16_at(s, p1);
-    let p2 = p1 + 2;
-    let got = fields::u32_at(s, p2);
-    let p3 = p2 + 4;
-    let command = fields::bytes1024_at(s, p3);
-    Input {
-        phase,
-        used,
-        got,
-        command,
-    }
-}
-
-pub fn put_input(s: &mut [u8], p: usize, x: Input)
-    requires { ⌜ p + inputSize ≤ length (now s) ⌝ }
-    ensures { λ _. ⌜ now (s .exit) ≡ write inputFormat x (now (s .entry)) p ⌝ }
-{
-    fields::put_byte(s, p, x.phase);
-    let p1 = p + 1;
-    fields::put_number(s, p1, 2, x.used as u64);
-    let p2 = p1 + 2;
-    fields::put_number(s, p2, 4, x.got as u64);
-    let p3 = p2 + 4;
-    let command = x.command;
-    fields::put_bytes1024(s, p3, command);
 }
 
 fn boxes_at(s: &[u8], p: usize) -> [ImageBox; BOXES]
@@ -482,7 +504,7 @@ fn put_films(s: &mut [u8], p: usize, a: [Film; FILMS])
     }
 }
 
-pub fn shelf_at(s: &[u8], p: usize) -> Shelf
+fn shelf_at(s: &[u8], p: usize) -> Shelf
     requires { ⌜ p + shelfSize ≤ length (now s) ⌝ }
     ensures { λ r. ⌜ r ≡ shelfFormat .read (now (s .entry)) p ⌝ }
 {
@@ -492,7 +514,7 @@ pub fn shelf_at(s: &[u8], p: usize) -> Shelf
     Shelf { count, films }
 }
 
-pub fn put_shelf(s: &mut [u8], p: usize, x: Shelf)
+fn put_shelf(s: &mut [u8], p: usize, x: Shelf)
     requires { ⌜ p + shelfSize ≤ length (now s) ⌝ }
     ensures { λ _. ⌜ now (s .exit) ≡ write shelfFormat x (now (s .entry)) p ⌝ }
 {
@@ -516,7 +538,7 @@ fn pictures_at(s: &[u8], p: usize) -> [Picture; BOXES]
     xs
 }
 
-pub fn put_pictures(s: &mut [u8], p: usize, a: [Picture; BOXES])
+fn put_pictures(s: &mut [u8], p: usize, a: [Picture; BOXES])
     requires { ⌜ p + mostBoxes * pictureSize ≤ length (now s) ⌝ }
     ensures { λ _. ⌜ now (s .exit) ≡ write (array mostBoxes pictureFormat) a (now (s .entry)) p ⌝ }
 {
@@ -529,7 +551,7 @@ pub fn put_pictures(s: &mut [u8], p: usize, a: [Picture; BOXES])
     }
 }
 
-pub fn entry_at(s: &[u8], p: usize) -> Entry
+fn entry_at(s: &[u8], p: usize) -> Entry
     requires { ⌜ p + entrySize ≤ length (now s) ⌝ }
     ensures { λ r. ⌜ r ≡ entryFormat .read (now (s .entry)) p ⌝ }
 {
@@ -548,7 +570,7 @@ pub fn entry_at(s: &[u8], p: usize) -> Entry
     }
 }
 
-pub fn put_entry(s: &mut [u8], p: usize, x: Entry)
+fn put_entry(s: &mut [u8], p: usize, x: Entry)
     requires { ⌜ p + entrySize ≤ length (now s) ⌝ }
     ensures { λ _. ⌜ now (s .exit) ≡ write entryFormat x (now (s .entry)) p ⌝ }
 {
@@ -608,7 +630,7 @@ fn put_entries(s: &mut [u8], p: usize, a: [Entry; ENTRIES])
     }
 }
 
-pub fn queue_at(s: &[u8], p: usize) -> Queue
+fn queue_at(s: &[u8], p: usize) -> Queue
     requires { ⌜ p + queueSize ≤ length (now s) ⌝ }
     ensures { λ r. ⌜ r ≡ queueFormat .read (now (s .entry)) p ⌝ }
 {
@@ -618,7 +640,7 @@ pub fn queue_at(s: &[u8], p: usize) -> Queue
     Queue { count, entries }
 }
 
-pub fn put_queue(s: &mut [u8], p: usize, x: Queue)
+fn put_queue(s: &mut [u8], p: usize, x: Queue)
     requires { ⌜ p + queueSize ≤ length (now s) ⌝ }
     ensures { λ _. ⌜ now (s .exit) ≡ write queueFormat x (now (s .entry)) p ⌝ }
 {
@@ -668,25 +690,4 @@ pub fn put_core(s: &mut [u8], p: usize, x: Core)
     let p4 = p3 + QUEUE;
     let opened = x.opened;
     put_opened(s, p4, opened);
-}
-
-pub fn state_at(s: &[u8], p: usize) -> State
-    requires { ⌜ p + recordsSize ≤ length (now s) ⌝ }
-    ensures { λ r. ⌜ r ≡ stateFormat .read (now (s .entry)) p ⌝ }
-{
-    let core = core_at(s, p);
-    let p1 = p + CORE;
-    let input = input_at(s, p1);
-    State { core, input }
-}
-
-pub fn put_state(s: &mut [u8], p: usize, x: State)
-    requires { ⌜ p + recordsSize ≤ length (now s) ⌝ }
-    ensures { λ _. ⌜ now (s .exit) ≡ write stateFormat x (now (s .entry)) p ⌝ }
-{
-    let core = x.core;
-    put_core(s, p, core);
-    let p1 = p + CORE;
-    let input = x.input;
-    put_input(s, p1, input);
 }

@@ -1,13 +1,16 @@
-// Sessions: the film session, tested by the records' rules.
-use rules::Numbers;
-use rules::Session;
+// Sessions: the film session, tested by the records' rules where it stands.
+use records::NAME;
+use records::SESSION;
+use rules::TEXT;
 ghost use mathlib.Core.Path.{_≡_};
-ghost use mathlib.Core.List.{[], _∷_};
-ghost use lib.Dec.{leb};
-ghost use lib.ListN.{take, drop};
+ghost use Prim.Native.Nat.{_+_, _≤_};
+ghost use lib.ListN.{length};
 ghost use Rattle.octets.specs.Octets.{same};
-ghost use Rattle.rules.specs.Values.{trimmed, labelAllowed};
-ghost use Rattle.rules.specs.Sound.{all, between, zeros, sessionBlank, sessionSound, sessionPlaceSound};
+ghost use Rattle.rules.specs.Layout.{numbersSize, sessionSize, sessionFormat};
+ghost use Rattle.rules.specs.Values.{trimmed};
+ghost use Rattle.rules.specs.Sound.{between, sessionSound, sessionPlaceSound};
+ghost use Rattle.records.specs.Places.{numbersIn};
+ghost use Rattle.sessions.specs.Labels.{labelSound};
 
 pub fn copies_allowed(copies: u8) -> bool
     ensures { λ r. ⌜ r ≡ between 1 99 copies ⌝ }
@@ -21,49 +24,6 @@ pub fn copies_allowed(copies: u8) -> bool
     true
 }
 
-fn uncoded(s: Session) -> bool
-    ensures { λ r. ⌜ r ≡ zeros (s .copies ∷ s .priority ∷ s .medium ∷ s .destination ∷ s .used ∷ []) ⌝ }
-{
-    if s.copies != 0 {
-        return false;
-    }
-    if s.priority != 0 {
-        return false;
-    }
-    if s.medium != 0 {
-        return false;
-    }
-    if s.destination != 0 {
-        return false;
-    }
-    if s.used != 0 {
-        return false;
-    }
-    true
-}
-
-pub fn session_blank(s: Session) -> bool
-    ensures { λ r. ⌜ r ≡ sessionBlank s ⌝ }
-{
-    let name = s.name;
-    if !names::name_blank(name) {
-        return false;
-    }
-    if !uncoded(s) {
-        return false;
-    }
-    let label = s.label;
-    names::all_zero(&label)
-}
-
-// Whether the first n bytes are a label.
-fn begins_label(s: &[u8], n: usize) -> bool
-    ensures { λ r. ⌜ r ≡ labelAllowed (take n (now (s .entry))) ⌝ }
-{
-    let m = distinct::within(s, n);
-    texts::label_allowed(&s[0..m])
-}
-
 // Whether no space stands before or behind a text.
 fn is_trimmed(s: &[u8]) -> bool
     ensures { λ r. ⌜ r ≡ same (trimmed (now (s .entry))) (now (s .entry)) ⌝ }
@@ -71,60 +31,64 @@ fn is_trimmed(s: &[u8]) -> bool
     octets::same_bytes(texts::trimmed(s), s)
 }
 
-fn begins_trimmed(s: &[u8], n: usize) -> bool
-    ensures { λ r. ⌜ r ≡ same (trimmed (take n (now (s .entry)))) (take n (now (s .entry))) ⌝ }
+// A label, its length before it.
+fn label_sound(b: &[u8], at: usize) -> bool
+    requires { ⌜ at + 65 ≤ length (now b) ⌝ }
+    ensures { λ r. ⌜ r ≡ labelSound (now (b .entry)) at ⌝ }
 {
-    let m = distinct::within(s, n);
-    is_trimmed(&s[0..m])
+    let used = b[at] as usize;
+    if TEXT < used {
+        return false;
+    }
+    let text = at + 1;
+    let stop = text + used;
+    if !texts::label_allowed(&b[text..stop]) {
+        return false;
+    }
+    if !is_trimmed(&b[text..stop]) {
+        return false;
+    }
+    names::zeros_in(b, stop, text + TEXT)
 }
 
-fn label_sound(label: [u8; 64], used: usize) -> bool
-    ensures { λ r. ⌜ r ≡ all (leb used 64 ∷ labelAllowed (take used label) ∷ same (trimmed (take used label)) (take used label) ∷ zeros (drop used label) ∷ []) ⌝ }
+fn session_sound(b: &[u8], p: usize) -> bool
+    requires { ⌜ (numbersSize ≤ length (now b)) × (p + sessionSize ≤ length (now b)) ⌝ }
+    ensures { λ r. ⌜ r ≡ sessionSound (numbersIn (now (b .entry))) (sessionFormat .read (now (b .entry)) p) ⌝ }
 {
-    if 64 < used {
+    let name = p + 1;
+    if !names::name_sound(b, name) {
         return false;
     }
-    if !begins_label(&label, used) {
+    let copies = name + NAME;
+    if !copies_allowed(b[copies]) {
         return false;
     }
-    if !begins_trimmed(&label, used) {
+    let priority = copies + 1;
+    if 2 < b[priority] {
         return false;
     }
-    names::zeros_from(&label, used)
-}
-
-pub fn session_sound(n: Numbers, s: Session) -> bool
-    ensures { λ r. ⌜ r ≡ sessionSound n s ⌝ }
-{
-    let name = s.name;
-    if !names::name_sound(n, name) {
+    let medium = priority + 1;
+    if 2 < b[medium] {
         return false;
     }
-    if !copies_allowed(s.copies) {
+    let destination = medium + 1;
+    if 1 < b[destination] {
         return false;
     }
-    if 2 < s.priority {
-        return false;
-    }
-    if 2 < s.medium {
-        return false;
-    }
-    if 1 < s.destination {
-        return false;
-    }
-    let label = s.label;
-    label_sound(label, s.used as usize)
+    label_sound(b, destination + 1)
 }
 
 // A place for a session, live or blank.
-pub fn session_place_sound(n: Numbers, s: Session) -> bool
-    ensures { λ r. ⌜ r ≡ sessionPlaceSound n s ⌝ }
+pub fn session_place_sound(b: &[u8], p: usize) -> bool
+    requires { ⌜ (numbersSize ≤ length (now b)) × (p + sessionSize ≤ length (now b)) ⌝ }
+    ensures { λ r. ⌜ r ≡ sessionPlaceSound (numbersIn (now (b .entry))) (sessionFormat .read (now (b .entry)) p) ⌝ }
 {
-    if 1 < s.live {
+    let live = b[p];
+    if 1 < live {
         return false;
     }
-    if s.live == 0 {
-        return session_blank(s);
+    if live == 0 {
+        return names::zeros_in(b, p + 1, p + SESSION);
     }
-    session_sound(n, s)
+    session_sound(b, p)
 }

@@ -1,26 +1,18 @@
--- An N-SET: its request, its rules by what it names, and the picture number that it may need.
-use Prim.Native.Nat.{ℕ, _<_}
-use mathlib.Core.Path.{_≡_}
-use mathlib.Core.Bool.{true}
-use mathlib.Core.List.{List}
-use Rattle.choice.specs.Rules.{Rule}
-use Rattle.rules.specs.declared.Core.{Core}
+-- An N-SET: its request, and the note that it may have.
+use Prim.Native.Nat.{ℕ}
+use Rattle.choice.specs.Pick.{pick}
 use Rattle.rules.specs.declared.Target.{Target}
 use Rattle.rules.specs.declared.Operation.the-variants.{Set}
 use Rattle.rules.specs.declared.Request.{Request}
-use Rattle.rules.specs.Bounds.{noneLeft}
-use Rattle.rules.specs.Records.{noName}
-use Rattle.rules.specs.Attributes.{Listing, imageIn, isFill}
-use Rattle.rules.specs.Checks.{setPlan}
-use Rattle.rules.specs.declared.Instance.{Instance}
+use Rattle.rules.specs.declared.Image.{Image}
+use Rattle.rules.specs.declared.Note.{Note}
+use Rattle.rules.specs.declared.Note.the-variants.{NoNote, PictureAt}
+use Rattle.rules.specs.Commands.{size}
+use Rattle.rules.specs.Attributes.{Listing, pixels, isFill}
 
 abbrev pub asked : ℕ → Target → Request
 asked message target = record { message = message; operation = Set target }
 
--- the rules of checks 8 and 9, which are the same whatever the name
-abbrev pub rulesFor : Core → Instance → Listing → List Rule
-rulesFor k whom l = setPlan k whom noName l .rules
-
--- a picture number is left for what fills a box
-abbrev pub PictureLeft : Core → Listing → Type 0
-PictureLeft k l = isFill (imageIn l) ≡ true → k .numbers .picture < noneLeft
+-- where the pixels lie of what fills a box, a picture with this number
+abbrev pub noteOf : ℕ → Listing → Image → Note
+noteOf number l image = pick (isFill image) (PictureAt number (pixels l image .from) (size (pixels l image))) NoNote

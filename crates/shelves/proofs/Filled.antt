@@ -5,7 +5,7 @@ use mathlib.Core.Path.{_≡_, refl, ap, _∙_}
 use mathlib.Core.List.{List, [], _∷_, _++_, map, append-assoc}
 use native.Mathlib.Numerals.{add-one}
 use native.Mathlib.Omega.{arith}
-use lib.ListN.{length, set, drop, replicate, length-append, length-map, length-replicate, length-set, replicate-append-replicate}
+use lib.ListN.{length, set, drop, replicate, length-append, length-map, length-set, replicate-append-replicate}
 use lib.Seq.{set-append-left, set-append-seam}
 use Rattle.octets.specs.Octets.{laid}
 use Rattle.rules.specs.Lists.{filledTo, from, without}
@@ -32,9 +32,6 @@ pub record Holds {A : Type 0} (m : ℕ) (blank : A) (count : ℕ) (places : List
   pub placed : places ≡ filledTo m blank xs
 
 module _ {A : Type 0} (m : ℕ) (blank : A) (count : ℕ) (places : List A) (xs : List A) (held : Holds m blank count places xs) where
-  pub holds-length : count ≤ m → length places ≡ m
-  holds-length h = ap length (held .placed) ∙ simp (length-append, length-replicate) (let e = held .counted in omega arith)
-
   -- an element more, at the first place that is left
   pub holds-more : (y : A) → count < m → Holds m blank (count + 1) (set places count y) (xs ++ (y ∷ []))
   holds-more y h =

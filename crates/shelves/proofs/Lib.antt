@@ -1,5 +1,4 @@
--- What one turn of each loop does; lists that are filled to so many places; shelves and queues, which hold such lists.
+-- Lists without one of their elements; lists that are filled to so many places; the one at a place of a list's first few.
 mod Without
 pub mod Filled
-mod Tidied
 pub mod Within

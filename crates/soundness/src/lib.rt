@@ -1,61 +1,75 @@
-// Soundness: the rules that the records keep, tested, and what every call but start begins with.
+// Soundness: the rules that the records keep, tested where they stand, and what every call but start begins with.
+use records::AT_COMMAND;
+use records::AT_CONTEXT;
+use records::AT_GOT;
+use records::AT_INPUT;
+use records::AT_OPENED;
+use records::AT_ROOM;
+use records::AT_SESSIONS;
+use records::AT_SYNTAX;
+use records::AT_USED;
 use records::RECORDS;
+use rules::COMMAND;
 use rules::Command;
-use rules::Core;
-use rules::Input;
-use rules::Opened;
-use rules::State;
 ghost use mathlib.Core.Path.{_≡_};
 ghost use mathlib.Core.List.{[], _∷_};
+ghost use Prim.Native.Nat.{_≤_};
 ghost use lib.Dec.{eqb};
-ghost use lib.ListN.{take};
+ghost use lib.ListN.{length};
 ghost use Rattle.choice.specs.Pick.{pick};
 ghost use Rattle.choice.specs.Rules.{firstBroken};
+ghost use Rattle.octets.specs.Octets.{numberAt};
+ghost use Rattle.strike.specs.Machine.{commandLimit};
+ghost use Rattle.rules.specs.Records.{commandHeld};
 ghost use Rattle.rules.specs.Commands.{understood};
 ghost use Rattle.rules.specs.Sound.{zeros, openSound, openedSound, readable, phaseSound, inputSound, coreSound, sound};
-ghost use Rattle.rules.specs.Layout.{unpack};
+ghost use Rattle.rules.specs.Layout.{recordsSize, unpack};
 ghost use Rattle.rules.specs.Outcomes.{recordsRules};
+ghost use Rattle.records.specs.Places.{openedIn, coreIn, heldIn};
+ghost use Rattle.soundness.specs.Held.{usedPlace};
 
-fn open_sound(o: Opened) -> bool
-    ensures { λ r. ⌜ r ≡ openSound o ⌝ }
+fn open_sound(b: &[u8]) -> bool
+    requires { ⌜ recordsSize ≤ length (now b) ⌝ }
+    ensures { λ r. ⌜ r ≡ openSound (openedIn (now (b .entry))) ⌝ }
 {
-    if o.context % 2 != 1 {
+    if b[AT_CONTEXT] % 2 != 1 {
         return false;
     }
-    if o.syntax < 1 {
+    let syntax = b[AT_SYNTAX];
+    if syntax < 1 {
         return false;
     }
-    if 2 < o.syntax {
+    if 2 < syntax {
         return false;
     }
-    if o.room < 4096 {
+    let room = octets::u32_at(b, AT_ROOM);
+    if room < 4096 {
         return false;
     }
-    if 16777216 < o.room {
+    if 16777216 < room {
         return false;
     }
     true
 }
 
-pub fn opened_sound(o: Opened) -> bool
-    ensures { λ r. ⌜ r ≡ openedSound o ⌝ }
+fn opened_sound(b: &[u8]) -> bool
+    requires { ⌜ recordsSize ≤ length (now b) ⌝ }
+    ensures { λ r. ⌜ r ≡ openedSound (openedIn (now (b .entry))) ⌝ }
 {
-    if 1 < o.live {
+    let live = b[AT_OPENED];
+    if 1 < live {
         return false;
     }
-    if o.live != 0 {
-        return open_sound(o);
+    if live != 0 {
+        return open_sound(b);
     }
-    if o.context != 0 {
+    if b[AT_CONTEXT] != 0 {
         return false;
     }
-    if o.syntax != 0 {
+    if b[AT_SYNTAX] != 0 {
         return false;
     }
-    if o.room != 0 {
-        return false;
-    }
-    true
+    octets::u32_at(b, AT_ROOM) == 0
 }
 
 fn is_readable(command: Command) -> bool
@@ -71,16 +85,17 @@ fn is_readable(command: Command) -> bool
     }
 }
 
-// Whether the first n bytes are a readable command.
-fn begins_readable(s: &[u8], n: usize) -> bool
-    ensures { λ r. ⌜ r ≡ readable (understood (take n (now (s .entry)))) ⌝ }
+// Whether the command that is held is readable.
+fn held_readable(b: &[u8]) -> bool
+    requires { ⌜ (recordsSize ≤ length (now b)) × (numberAt 2 (now b) usedPlace ≤ commandLimit) ⌝ }
+    ensures { λ r. ⌜ r ≡ readable (understood (commandHeld (heldIn (now (b .entry))))) ⌝ }
 {
-    let m = distinct::within(s, n);
-    is_readable(commands::understood(&s[0..m]))
+    let stop = AT_COMMAND + octets::u16_at(b, AT_USED);
+    is_readable(commands::understood(&b[AT_COMMAND..stop]))
 }
 
 // Whether there are no bytes of a command, and none of data.
-fn holds_nothing(used: u16, got: u32) -> bool
+fn holds_nothing(used: usize, got: usize) -> bool
     ensures { λ r. ⌜ r ≡ zeros (used ∷ got ∷ []) ⌝ }
 {
     if used != 0 {
@@ -90,26 +105,28 @@ fn holds_nothing(used: u16, got: u32) -> bool
 }
 
 // The collecting state: in command, in data, skipping data, or one that holds nothing.
-fn phase_sound(room: u32, i: Input) -> bool
-    ensures { λ r. ⌜ r ≡ phaseSound room i ⌝ }
+fn phase_sound(b: &[u8]) -> bool
+    requires { ⌜ (recordsSize ≤ length (now b)) × (numberAt 2 (now b) usedPlace ≤ commandLimit) ⌝ }
+    ensures { λ r. ⌜ r ≡ phaseSound (openedIn (now (b .entry)) .room) (heldIn (now (b .entry))) ⌝ }
 {
-    if i.phase == 1 {
-        return i.got == 0;
+    let phase = b[AT_INPUT];
+    let got = octets::u32_at(b, AT_GOT);
+    if phase == 1 {
+        return got == 0;
     }
-    let command = i.command;
-    if i.phase == 3 {
-        if room < i.got {
+    if phase == 3 {
+        if octets::u32_at(b, AT_ROOM) < got {
             return false;
         }
-        return begins_readable(&command, i.used as usize);
+        return held_readable(b);
     }
-    if i.phase == 4 {
-        if i.got != 0 {
+    if phase == 4 {
+        if got != 0 {
             return false;
         }
-        return begins_readable(&command, i.used as usize);
+        return held_readable(b);
     }
-    holds_nothing(i.used, i.got)
+    holds_nothing(octets::u16_at(b, AT_USED), got)
 }
 
 // The last collecting state there may be: idle while not open.
@@ -122,88 +139,65 @@ fn last_phase(live: u8) -> u8
     4
 }
 
-pub fn input_sound(o: Opened, i: Input) -> bool
-    ensures { λ r. ⌜ r ≡ inputSound o i ⌝ }
+fn input_sound(b: &[u8]) -> bool
+    requires { ⌜ recordsSize ≤ length (now b) ⌝ }
+    ensures { λ r. ⌜ r ≡ inputSound (openedIn (now (b .entry))) (heldIn (now (b .entry))) ⌝ }
 {
-    if last_phase(o.live) < i.phase {
+    if last_phase(b[AT_OPENED]) < b[AT_INPUT] {
         return false;
     }
-    let used = i.used as usize;
-    if 1024 < used {
+    let used = octets::u16_at(b, AT_USED);
+    if COMMAND < used {
         return false;
     }
-    let command = i.command;
-    if !names::zeros_from(&command, used) {
+    if !names::zeros_in(b, AT_COMMAND + used, AT_COMMAND + COMMAND) {
         return false;
     }
-    phase_sound(o.room, i)
+    phase_sound(b)
 }
 
-// That UIDs differ is tested first: behind the other tests, all films would be copied once more for each loop over them.
-pub fn core_sound(k: Core) -> bool
-    ensures { λ r. ⌜ r ≡ coreSound k ⌝ }
+fn core_sound(b: &[u8]) -> bool
+    requires { ⌜ recordsSize ≤ length (now b) ⌝ }
+    ensures { λ r. ⌜ r ≡ coreSound (coreIn (now (b .entry))) ⌝ }
 {
-    let n = k.numbers;
-    let places = k.sessions;
-    let session = shelves::the_session(places);
-    let shelf = k.shelf;
-    if !distinct::uids_apart(session, shelf) {
+    if !names::numbers_sound(b) {
         return false;
     }
-    if !names::numbers_sound(n) {
+    if !sessions::session_place_sound(b, AT_SESSIONS) {
         return false;
     }
-    if !sessions::session_place_sound(n, session) {
+    if !films::shelf_sound(b) {
         return false;
     }
-    if !films::shelf_sound(n, session, shelf) {
+    if !entries::queue_sound(b) {
         return false;
     }
-    let queue = k.queue;
-    if !entries::queue_sound(n, queue) {
+    if !distinct::uids_apart(b) {
         return false;
     }
-    let opened = k.opened;
-    opened_sound(opened)
+    opened_sound(b)
 }
 
 // The records' rules.
-pub fn state_sound(s: State) -> bool
-    ensures { λ r. ⌜ r ≡ sound s ⌝ }
+fn state_sound(b: &[u8]) -> bool
+    requires { ⌜ recordsSize ≤ length (now b) ⌝ }
+    ensures { λ r. ⌜ r ≡ sound (unpack (now (b .entry))) ⌝ }
 {
-    let core = s.core;
-    if !core_sound(core) {
+    if !core_sound(b) {
         return false;
     }
-    let opened = core.opened;
-    let input = s.input;
-    input_sound(opened, input)
+    input_sound(b)
 }
 
-// What a call finds in the records: the number that it is refused with for them, 0 where it is not, and what they hold.
-pub struct Unpacked {
-    pub refusal: u32,
-    pub state: State,
-}
-
-// Records that are too short hold what zeros hold.
-fn too_short() -> Unpacked
-    ensures { λ r. ⌜ r .refusal ≡ 2 ⌝ }
-{
-    let zeros = [0; RECORDS];
-    let state = records::state_at(&zeros, 0);
-    Unpacked { refusal: 2, state }
-}
-
-pub fn unpack_checked(bytes: &[u8]) -> Unpacked
-    ensures { λ r. ⌜ (r .refusal ≡ firstBroken (recordsRules (now (bytes .entry)))) × (r .refusal ≡ 0 → r .state ≡ unpack (now (bytes .entry))) ⌝ }
+// The number that a call is refused with for its records, 0 where it is not.
+pub fn refusal(bytes: &[u8]) -> u32
+    ensures { λ r. ⌜ r ≡ firstBroken (recordsRules (now (bytes .entry))) ⌝ }
 {
     if bytes.len() < RECORDS {
-        return too_short();
+        return 2;
     }
-    let state = records::state_at(bytes, 0);
-    if !state_sound(state) {
-        return Unpacked { refusal: 1, state };
+    if !state_sound(bytes) {
+        return 1;
     }
-    Unpacked { refusal: 0, state }
+    0
 }

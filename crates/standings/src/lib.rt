@@ -1,11 +1,9 @@
 // Standings: how an attribute stands in a data set, as a number, and the status that the worst of them gives (check 8).
 use elements::Found;
 use headers::Part;
-use headers::Scope;
 ghost use mathlib.Core.Path.{_≡_};
 ghost use Prim.Native.Nat.{_≤_};
 ghost use lib.ListN.{length};
-ghost use Rattle.elements.specs.Find.{findAt};
 ghost use Rattle.rules.specs.Commands.{placed, bytesOf};
 ghost use Rattle.standings.specs.Severity.{kindOf, severityBy, optionalBy, givenBy, worse, statusOf};
 
@@ -15,7 +13,7 @@ pub struct Attribute {
     pub value: Part,
 }
 
-fn seen(found: Found) -> Attribute
+pub fn seen(found: Found) -> Attribute
     ensures { λ r. ⌜ (r .kind ≡ kindOf found) × (r .value ≡ placed found) ⌝ }
 {
     match found {
@@ -32,13 +30,6 @@ fn seen(found: Found) -> Attribute
             value: Part { from: 0, stop: 0 },
         },
     }
-}
-
-pub fn look(d: &[u8], scope: Scope, tag: usize) -> Attribute
-    requires { ⌜ (scope .inside .from ≤ scope .inside .stop) × (scope .inside .stop ≤ length (now d)) ⌝ }
-    ensures { λ r. ⌜ (r .kind ≡ kindOf (findAt (now (d .entry)) scope tag)) × (r .value ≡ placed (findAt (now (d .entry)) scope tag)) × (r .value .from ≤ r .value .stop) × (r .value .stop ≤ length (now (d .entry))) ⌝ }
-{
-    seen(finding::find(d, scope, tag))
 }
 
 pub fn value(d: &[u8], part: Part) -> &[u8]

@@ -1,22 +1,22 @@
--- The oldest entry: its bytes, and that it fits the place that they are laid in.
+-- The oldest entry: its bytes, and what the rules of the records say of it.
 -- Assumes nothing.
-use Prim.Native.Nat.{ℕ, zero, suc, _-_, _≤_}
+use Prim.Native.Nat.{ℕ, zero, suc, _+_, _*_, _-_, _≤_}
 use mathlib.Core.Path.{_≡_, refl, sym, ap, subst, _∙_}
-use mathlib.Core.Bool as bool
 use mathlib.Core.Bool.{Bool, true, false}
 use mathlib.Core.List.{List, [], _∷_, _++_, append-assoc, append-nil}
 use native.Mathlib.Omega.{arith}
 use lib.Dec.{eqb}
-use lib.ListN.{length, getD, take, replicate, length-take}
-use lib.Seq.{take-suc, take-all}
-use borrow.Author.Tests.{eqb-true, eqb-false, ltb-false}
+use lib.ListN.{length, getD, take, drop, replicate, length-drop}
+use lib.Seq.{take-suc, take-all, length-take-le}
+use borrow.Author.Tests.{eqb-true, eqb-false, ltb-false, eq-eqb, ne-eqb}
 use Rattle.choice.specs.Pick.{pick}
 use Rattle.choice.specs.Rules.{firstBroken}
 use Rattle.choice.proofs.Picks.{Kept}
-use Rattle.octets.specs.Octets.{octets, laid, Bytes}
-use Rattle.octets.proofs.Laid.{length-laid}
+use Rattle.choice.proofs.Broken.{none-broken}
+use Rattle.octets.specs.Octets.{numberAt, octets, part, laid, Bytes}
 use Rattle.octets.proofs.Numbers.{octets-length}
-use Rattle.fields.specs.Format.{write, array, bytesAll}
+use Rattle.fields.specs.Format.{array, bytesAll}
+use Rattle.fields.proofs.Laws.{number-laws, _then-laws_, array-laws, get-read}
 use Rattle.uids.specs.Uids.{made}
 use Rattle.uids.proofs.Made.{made-short}
 use Rattle.rules.specs.declared.Picture.{Picture}
@@ -25,24 +25,27 @@ use Rattle.rules.specs.declared.Numbers.{Numbers}
 use Rattle.rules.specs.declared.Entry.{Entry}
 use Rattle.rules.specs.declared.Queue.{Queue}
 use Rattle.rules.specs.declared.Core.{Core}
-use Rattle.rules.specs.declared.State.{State}
-use Rattle.rules.specs.Bounds.{mostBoxes, ticketPlace, copiesPlace, uidPlace, entryRoom}
+use Rattle.rules.specs.Bounds.{mostBoxes, mostEntries, copiesPlace, uidPlace, entryRoom}
 use Rattle.rules.specs.Lists.{filledTo}
-use Rattle.rules.specs.Layout.{pictureFormat, unpack}
+use Rattle.rules.specs.Layout.{recordsSize, serialFormat, pictureFormat, nameFormat, numbersFormat, entryFormat, queueFormat, unpack}
 use Rattle.rules.specs.Records.{rootOf, uidOf, noEntry, entriesOf, queued}
-use Rattle.rules.specs.Calls.{takeRules, pictureBytes, entryBytes}
+use Rattle.rules.specs.Calls.{takeRules, pictureBytes, entryBytes, taken}
+use Rattle.rules.specs.Outcomes.{recordsRules}
 use Rattle.rules.specs.Sound.{nameSound, sentSound, madeSound, entrySound, coreSound}
-use Rattle.writing.proofs.Chain.{laid-next, laid-next-two}
-use Rattle.promises.proofs.ListLaws.{all-true, every-at, Each, each-at, each-take}
+use Rattle.rules.proofs.Accepted.{long-enough, rules-kept}
+use Rattle.rules.proofs.Steps.{picture-steps, entry-steps}
+use Rattle.writing.proofs.Chain.{laid-next-two}
+use Rattle.promises.proofs.ListLaws.{all-true, every-at}
 use Rattle.promises.proofs.Facts.{between-true, core-facts, numbers-facts, queue-facts}
-use Rattle.promises.proofs.Sized.{EntrySized, Sized}
+use Rattle.promises.proofs.Sized.{Sized}
 use Rattle.promises.proofs.Tidy.{tidy-queue, queue-few}
 use Rattle.promises.proofs.Kept.{sound-parts}
-use Rattle.promises.proofs.EntryBack.{pictures-length}
 use Rattle.promises.proofs.Unpacked.{unpacked-sized}
+use Rattle.records.specs.Places.{queuePlace, numbersIn, queueIn, coreIn}
+use Rattle.records.proofs.Parts.{unpack-core, core-numbers, core-queue}
+use Rattle.records.proofs.Texts.{text-front}
 use Rattle.shelves.proofs.Filled.{laid-filled}
-use Rattle.choice.proofs.Broken.{none-broken}
-use Rattle.soundness.proofs.Records.{Found, found-sound}
+use Rattle.taking.specs.Oldest.{entriesPlace, filmPlace}
 
 -- Pictures.
 
@@ -61,36 +64,47 @@ first-pictures (suc n) ps h =
 all-pictures : (ps : List Picture) → length ps ≡ mostBoxes → bytesAll pictureFormat ps mostBoxes ≡ pictureBytes ps
 all-pictures ps e = first-pictures mostBoxes ps (omega arith) ∙ ap pictureBytes (take-all mostBoxes ps (omega arith))
 
--- An entry's parts, laid one after the other.
+-- An entry's parts, laid one after the other: pictures and ticket as they stand in the records, copies and UID.
 
-pub entry-laid : (s m n o p : List ℕ) (k : Numbers) (e : Entry) (uid : List ℕ) → entryRoom ≤ length s → length (e .pictures) ≡ mostBoxes
-    → m ≡ write (array mostBoxes pictureFormat) (e .pictures) s 0 → n ≡ laid m ticketPlace (octets 2 (e .ticket)) → o ≡ laid n copiesPlace (octets 2 (e .copies))
-    → uid ≡ filledTo 64 0 (uidOf k (e .film)) → p ≡ laid o uidPlace uid → p ≡ laid s 0 (entryBytes k e)
-unfolding write entryBytes
-entry-laid s m n o p k e uid long full em en eo eu ep =
-    let pictures = pictureBytes (e .pictures) in
-    let size = pictures-length (e .pictures) in
-    let ticket = octets-length 2 (e .ticket) in
-    let copies = octets-length 2 (e .copies) in
-    let laid-pictures = em ∙ ap (laid s 0) (all-pictures (e .pictures) full) in
-    let same = ap length laid-pictures ∙ length-laid s 0 pictures (omega arith) in
-    laid-next s m p pictures _ 0 ticketPlace (omega arith) (omega arith) laid-pictures
-    (laid-next-two m n o p (octets 2 (e .ticket)) (octets 2 (e .copies)) (filledTo 64 0 (uidOf k (e .film))) ticketPlace copiesPlace uidPlace (omega arith) (omega arith) (omega arith) en eo (ep ∙ ap (laid o uidPlace) eu))
+module _ (b : List ℕ) (o : Bytes b) (long : recordsSize ≤ length b) where
+  abbrev oldest : Entry
+  oldest = entryFormat .read b entriesPlace
+
+  abbrev front : List ℕ
+  front = part b entriesPlace (entriesPlace + copiesPlace)
+
+  front-bytes : front ≡ pictureBytes (oldest .pictures) ++ octets 2 (oldest .ticket)
+  unfolding entryFormat pictureFormat
+  front-bytes =
+      let all = array-laws mostBoxes (picture-steps .laws) in
+      sym ((all then-laws number-laws 2) .forth b entriesPlace o (omega arith))
+      ∙ ap (λ (z : List ℕ). z ++ octets 2 (oldest .ticket)) (all-pictures (oldest .pictures) (all .good b entriesPlace o .0))
+
+  pub entry-laid : (s m n p : List ℕ) (uid : List ℕ) → entryRoom ≤ length s
+      → m ≡ laid s 0 front → n ≡ laid m copiesPlace (octets 2 (oldest .copies)) → uid ≡ filledTo 64 0 (uidOf (numbersIn b) (oldest .film)) → p ≡ laid n uidPlace uid
+      → p ≡ laid s 0 (entryBytes (numbersIn b) oldest)
+  unfolding entryBytes
+  entry-laid s m n p uid room em en eu ep =
+      let copies = octets 2 (oldest .copies) in
+      let name = filledTo 64 0 (uidOf (numbersIn b) (oldest .film)) in
+      let size = length-take-le copiesPlace (drop entriesPlace b) (omega (arith, length-drop entriesPlace b)) in
+      laid-next-two s m n p front copies name 0 copiesPlace uidPlace (omega (arith, size, octets-length 2 (oldest .copies))) (omega (arith, size)) (omega (arith, octets-length 2 (oldest .copies))) em en (ep ∙ ap (laid n uidPlace) eu)
+      ∙ ap (laid s 0) (ap (λ (z : List ℕ). z ++ (copies ++ name)) front-bytes ∙ append-assoc (pictureBytes (oldest .pictures)) (octets 2 (oldest .ticket)) (copies ++ name))
 
 -- A queue whose places past the count are blank.
 
-pub counted : (q : Queue) → queued (entriesOf q) ≡ q → length (entriesOf q) ≡ q .count
+counted : (q : Queue) → queued (entriesOf q) ≡ q → length (entriesOf q) ≡ q .count
 unfolding queued
 counted q tidy = ap (λ (x : Queue). x .count) tidy
+
+pub entries-counted : (b : List ℕ) → queued (entriesOf (queueIn b)) ≡ queueIn b → length (entriesOf (coreIn b .queue)) ≡ getD b queuePlace 0
+unfolding queueFormat
+entries-counted b tidy = ap (λ (q : Queue). length (entriesOf q)) (core-queue b) ∙ counted (queueIn b) tidy
 
 first-taken : {A : Type 0} (n : ℕ) (xs : List A) (d blank : A) → 1 ≤ n → 1 ≤ length xs → getD xs 0 d ≡ getD (take n xs) 0 blank
 first-taken zero xs d blank h k = absurd (omega arith)
 first-taken (suc n) [] d blank h k = absurd (omega arith)
 first-taken (suc n) (x ∷ xs) d blank h k = refl
-
-pub first-entry : (q : Queue) (d : Entry) → 1 ≤ q .count → length (q .entries) ≡ 16 → getD (q .entries) 0 d ≡ getD (entriesOf q) 0 noEntry
-unfolding entriesOf
-first-entry q d h k = first-taken (q .count) (q .entries) d noEntry h (omega arith)
 
 -- What the rules of the records say of the oldest entry.
 
@@ -106,65 +120,81 @@ entry-name : (n : Numbers) (e : Entry) → entrySound n e ≡ true → nameSound
 unfolding entrySound
 entry-name n e h = all-true _ h .1 .1 .0
 
-entries-sized : (q : Queue) → Each EntrySized (q .entries) → Each EntrySized (entriesOf q)
-unfolding entriesOf
-entries-sized q h = each-take EntrySized (q .count) (q .entries) h
+-- what a call is told of the records that it accepts
+record Ready (k : Core) : Type 0 where
+  kept : coreSound k ≡ true
+  sized : Sized k
 
--- what a call is told of the records that it read
-pub record Ready (k : Core) : Type 0 where
-  pub kept : coreSound k ≡ true
-  pub sized : Sized k
+module _ (b : List ℕ) (o : Bytes b) (unbroken : firstBroken (recordsRules b) ≡ 0) where
+  accepted : Kept (recordsRules b)
+  accepted = none-broken (recordsRules b) refl unbroken
 
-pub ready : {b : List ℕ} {s : State} → Found b s → Bytes b → Ready (s .core)
-ready {b} f o =
-    subst (λ (x : State). Ready (x .core)) (sym (f .same))
-    (record { kept = sound-parts (unpack b) (found-sound f) .0; sized = unpacked-sized b o })
+  pub long : recordsSize ≤ length b
+  long = long-enough b accepted
 
-pub ready-tidy : (k : Core) → Ready k → queued (entriesOf (k .queue)) ≡ k .queue
-ready-tidy k r = tidy-queue k (r .kept) (r .sized)
+  ready : Ready (coreIn b)
+  ready = subst Ready (unpack-core b) (record { kept = sound-parts (unpack b) (rules-kept b accepted) .0; sized = unpacked-sized b o })
 
-module _ (k : Core) (room : ℕ) (r : Ready k) (e : firstBroken (takeRules k room) ≡ 0) where
-  unbroken : Kept (takeRules k room)
-  unbroken = none-broken (takeRules k room) refl e
+  tidy-core : queued (entriesOf (coreIn b .queue)) ≡ coreIn b .queue
+  tidy-core = tidy-queue (coreIn b) (ready .kept) (ready .sized)
 
-  some : 1 ≤ length (entriesOf (k .queue))
-  some = let h = eqb-false (length (entriesOf (k .queue))) 0 (unbroken .1 .0) in omega arith
+  pub tidy : queued (entriesOf (queueIn b)) ≡ queueIn b
+  tidy = subst (λ (q : Queue). queued (entriesOf q) ≡ q) (core-queue b) tidy-core
 
-  some-counted : 1 ≤ k .queue .count
-  some-counted = omega (arith, some, counted (k .queue) (ready-tidy k r))
+  -- no rule of the take is broken
+  module _ (room : ℕ) (e : firstBroken (takeRules (coreIn b) room) ≡ 0) where
+    kept-rules : Kept (takeRules (coreIn b) room)
+    kept-rules = none-broken (takeRules (coreIn b) room) refl e
 
-  pub oldest-asked : (1 ≤ k .queue .count) × (length (k .queue .entries) ≡ 16)
-  oldest-asked = (some-counted, r .sized .queue .entries)
+    some : 1 ≤ length (entriesOf (coreIn b .queue))
+    some = let h = eqb-false (length (entriesOf (coreIn b .queue))) 0 (kept-rules .1 .0) in omega arith
 
-  pub left-asked : (queued (entriesOf (k .queue)) ≡ k .queue) × (1 ≤ k .queue .count) × (k .queue .count ≤ 16)
-  left-asked = (ready-tidy k r, some-counted, queue-few k (r .kept))
+    pub left-asked : (recordsSize ≤ length b) × (queued (entriesOf (queueIn b)) ≡ queueIn b) × (1 ≤ queueIn b .count) × (queueIn b .count ≤ 16)
+    left-asked =
+        let n = counted (coreIn b .queue) tidy-core in
+        let some-in : 1 ≤ coreIn b .queue .count = omega (arith, some, n) in
+        (long, tidy, subst (λ (q : Queue). 1 ≤ q .count) (core-queue b) some-in, subst (λ (q : Queue). q .count ≤ 16) (core-queue b) (queue-few (coreIn b) (ready .kept)))
 
-  pub put-asked : (x : Entry) → x ≡ getD (entriesOf (k .queue)) 0 noEntry
-      → (entryRoom ≤ room) × (k .numbers .used ≤ 40) × (length (k .numbers .root) ≡ 40) × (length (x .pictures) ≡ 36) × (x .film .used ≤ 64) × (length (x .film .text) ≡ 64)
-  put-asked x g =
-      let size = subst EntrySized (sym g) (each-at EntrySized (entriesOf (k .queue)) 0 noEntry (entries-sized (k .queue) (r .sized .queue .each)) some) in
-      let facts = core-facts k (r .kept) in
-      let right = subst (λ (y : Entry). entrySound (k .numbers) y ≡ true) (sym g) (every-at (entrySound (k .numbers)) (entriesOf (k .queue)) 0 noEntry (queue-facts (k .numbers) (k .queue) (facts .queue) .entries) some) in (
-        ltb-false room entryRoom (unbroken .0),
-        between-true 1 40 (k .numbers .used) (numbers-facts (k .numbers) (facts .numbers) .used) .1,
-        r .sized .numbers .root,
-        size .pictures,
-        name-short (k .numbers) (x .film) (entry-name (k .numbers) x right),
-        size .film,
-      )
+    -- the oldest stands first
+    first-entry : getD (entriesOf (coreIn b .queue)) 0 noEntry ≡ entryFormat .read b entriesPlace
+    unfolding entriesOf queueFormat
+    first-entry =
+        let entries = array mostEntries entryFormat .read b entriesPlace in
+        let full : length entries ≡ mostEntries = array-laws mostEntries (entry-steps .laws) .good b entriesPlace o .0 in
+        let place : entriesPlace + 0 * entryFormat .size ≡ entriesPlace = omega arith in
+        ap (λ (q : Queue). getD (entriesOf q) 0 noEntry) (core-queue b)
+        ∙ sym (first-taken (getD b queuePlace 0) entries (entryFormat .blank) noEntry (left-asked .2) (omega arith))
+        ∙ get-read entryFormat b entriesPlace mostEntries 0 (omega arith)
+        ∙ ap (entryFormat .read b) place
+
+    pub taken-bytes : entryBytes (numbersIn b) (entryFormat .read b entriesPlace) ≡ taken (coreIn b) .1
+    unfolding taken
+    taken-bytes = rw (core-numbers b, first-entry)
+
+    pub oldest-asked : (entryRoom ≤ room) × (recordsSize ≤ length b) × (numbersIn b .used ≤ 40) × (nameFormat .read b filmPlace .used ≤ 64)
+    unfolding entryFormat pictureFormat
+    oldest-asked =
+        let facts = core-facts (coreIn b) (ready .kept) in
+        let right = every-at (entrySound (coreIn b .numbers)) (entriesOf (coreIn b .queue)) 0 noEntry (queue-facts (coreIn b .numbers) (coreIn b .queue) (facts .queue) .entries) some in
+        let short = name-short (coreIn b .numbers) _ (entry-name (coreIn b .numbers) _ right) in (
+          ltb-false room entryRoom (kept-rules .0),
+          long,
+          subst (λ (n : Numbers). n .used ≤ 40) (core-numbers b) (between-true 1 40 (coreIn b .numbers .used) (numbers-facts (coreIn b .numbers) (facts .numbers) .used) .1),
+          subst (λ (x : Entry). x .film .used ≤ 64) first-entry short,
+        )
 
 -- UIDs, zero-filled.
 
-pub text-filled : (n : ℕ) (xs o : List ℕ) → n ≤ 64 → o ≡ laid (replicate 64 0) 0 (take (n - 0) xs) → o ≡ filledTo 64 0 (take n xs)
-text-filled n xs o h e =
-    let z : n - 0 ≡ n = omega arith in
-    let short : length (take n xs) ≤ 64 = rw (length-take n xs) (omega arith) in
-    e ∙ rw z (laid-filled 64 0 (take n xs) short)
+module _ (b : List ℕ) (long : recordsSize ≤ length b) where
+  pub sent-uid : numberAt 4 b filmPlace ≡ 0 → nameFormat .read b filmPlace .used ≤ 64 → (o : List ℕ) → o ≡ filledTo 64 0 (part b (filmPlace + 5) (filmPlace + 5 + getD b (filmPlace + 4) 0))
+      → o ≡ filledTo 64 0 (uidOf (numbersIn b) (nameFormat .read b filmPlace))
+  unfolding uidOf nameFormat serialFormat
+  sent-uid none short o e = e ∙ rw (eq-eqb _ _ none) (ap (filledTo 64 0) (sym (text-front b (filmPlace + 5) 64 (omega arith) (getD b (filmPlace + 4) 0) short)))
 
-pub made-filled : (k : Numbers) (serial : ℕ) (o : List ℕ) → k .used ≤ 40 → o ≡ laid (replicate 64 0) 0 (made (take (k .used - 0) (k .root)) serial) → o ≡ filledTo 64 0 (made (rootOf k) serial)
-unfolding rootOf
-made-filled k serial o h e =
-    let z : k .used - 0 ≡ k .used = omega arith in
-    let root : length (take (k .used) (k .root)) ≤ 40 = rw (length-take (k .used) (k .root)) (omega arith) in
-    let short = made-short (take (k .used) (k .root)) serial root in
-    e ∙ rw z (laid-filled 64 0 (made (take (k .used) (k .root)) serial) (omega arith))
+  pub made-uid : (numberAt 4 b filmPlace ≡ 0 → ⊥) → numbersIn b .used ≤ 40 → (o : List ℕ) → o ≡ filledTo 64 0 (made (part b 1 (1 + getD b 0 0)) (numberAt 4 b filmPlace))
+      → o ≡ filledTo 64 0 (uidOf (numbersIn b) (nameFormat .read b filmPlace))
+  unfolding uidOf rootOf nameFormat serialFormat numbersFormat
+  made-uid some short o e = e ∙ rw (ne-eqb _ _ some) (ap (λ (root : List ℕ). filledTo 64 0 (made root (numberAt 4 b filmPlace))) (sym (text-front b 1 40 (omega arith) (getD b 0 0) short)))
+
+pub made-fits : (root : List ℕ) (serial : ℕ) → length root ≤ 40 → laid (replicate 64 0) 0 (made root serial) ≡ filledTo 64 0 (made root serial)
+made-fits root serial h = laid-filled 64 0 (made root serial) (omega (arith, made-short root serial h))

@@ -1,5 +1,5 @@
 -- What a request that is decided may rest on: sound records, and a command whose places and UIDs are in order.
-use Prim.Native.Nat.{ℕ}
+use Prim.Native.Nat.{ℕ, _≤_}
 use mathlib.Core.Path.{_≡_}
 use mathlib.Core.Bool.{true}
 use mathlib.Core.List.{List}
@@ -12,11 +12,17 @@ use Rattle.rules.specs.declared.Operation.the-variants.{Echo, Create, Set, Act,
 use Rattle.rules.specs.Records.{filmsOf, shelved, entriesOf, queued}
 use Rattle.rules.specs.Commands.{uidAt}
 use Rattle.rules.specs.Sound.{coreSound}
+use Rattle.rules.specs.Layout.{recordsSize}
+use Rattle.records.specs.Places.{coreIn}
 use Rattle.commands.specs.Within.{PartIn}
 
 -- the rules are kept, and unused places are blank
 abbrev pub Ready : Core → Type 0
 Ready k = (coreSound k ≡ true) × (shelved (filmsOf (k .shelf)) ≡ k .shelf) × (queued (entriesOf (k .queue)) ≡ k .queue)
+
+-- of the records' bytes
+abbrev pub ReadyIn : List ℕ → Type 0
+ReadyIn b = (recordsSize ≤ length b) × Ready (coreIn b)
 
 -- a place of the command with a UID that keeps PS3.5's rules
 abbrev pub UidIn : List ℕ → Part → Type 0

@@ -1,5 +1,6 @@
 use mathlib.Core.Path.{ap, subst, _∙_}
 use Rattle.rules.specs.Checks.{quietly, planOf}
+use Rattle.records.specs.Places.{coreIn}
 use Rattle.verdicts.specs.Ready.{UidsIn}
 use borrow.Author.Needs.{needs}
 use Rattle.answering.proofs.planned.Statement.{statement}
@@ -27,7 +28,11 @@ deleted-requires c κs =
 
 returns : tie.Need-returns
 unfolding planOf
-returns c = let o : tie.Start = search in c .quiet .ensures ∙ rw (c .before .before .enum-told .given .1) (ap (quietly (o .args .k)) (c .before .no-name .ensures))
+returns c =
+    let o : tie.Start = search in
+    let k = coreIn (o .args .b .now) in
+    let told = c .quiet .ensures k in
+    (told .0 ∙ rw (c .before .before .enum-told .given .1) (ap (quietly k) (c .before .no-name .ensures)), told .1)
 
 returns-2 : tie.Need-returns-2
 returns-2 c = rw (c .before .before .operation .given .1) (c .created .ensures)

@@ -4,20 +4,18 @@ use Rattle.octets.specs.Octets.{same}
 use Rattle.uids.specs.Uids.{isUid, unpadded}
 use Rattle.rules.specs.Text.{sessionClass}
 use Rattle.rules.specs.Values.{noBytes}
-use Rattle.rules.specs.Attributes.{listing, look}
-use Rattle.attributes.proofs.Laws.{mandatory-told}
+use Rattle.standings.specs.Severity.{severityBy}
+use Rattle.attributes.proofs.Laws.{by-value}
 use borrow.Author.Needs.{needs}
 use Rattle.attributes.proofs.class_severity.Statement.{statement}
 use Rattle.attributes.proofs.class_severity.Tie as tie
 
 returns : tie.Need-returns
 returns c =
-    let a = c .before .before .before .before .before .before .args in
-    let l = listing (a .d .now) (a .scope) in
-    let at = c .before .before .before .before .look .ensures in
-    mandatory-told noBytes (λ v. both (isUid (unpadded v)) (same sessionClass (unpadded v))) l (look l 0x0008_1150) (at .0) (at .1) (c .before .before .before .value .ensures) refl
+    let start : tie.Start = search in
+    by-value noBytes (λ v. both (isUid (unpadded v)) (same sessionClass (unpadded v))) _ (start .args .found) (c .before .before .before .before .seen .ensures .0) (c .before .before .before .value-of .ensures) refl
     (c .before .is-session-class .ensures ∙ ap (λ u. both (isUid u) (same sessionClass u)) (c .before .before .unpadded .ensures))
-    (c .severity .ensures)
+    severityBy (c .severity .ensures)
 
 pub class-severity-spec : {M : Type 1} → statement M
 class-severity-spec = tie.close (tie.spec (λ c κs. search needs) (λ c κs. search needs) (λ c κs. search needs) (λ c κs. search needs) (λ c κs. search needs) returns)

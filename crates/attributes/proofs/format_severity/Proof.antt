@@ -4,9 +4,9 @@ use lib.ListN.{length}
 use Rattle.choice.specs.Pick.{not}
 use Rattle.rules.specs.declared.Layout.{Layout}
 use Rattle.rules.specs.Values.{blank, countsIn}
-use Rattle.rules.specs.Attributes.{listingOf, look}
 use Rattle.choice.proofs.Picks.{nots}
-use Rattle.attributes.proofs.Laws.{mandatory-told}
+use Rattle.standings.specs.Severity.{severityBy}
+use Rattle.attributes.proofs.Laws.{by-value}
 use borrow.Author.Needs.{needs}
 use Rattle.attributes.proofs.format_severity.Statement.{statement}
 use Rattle.attributes.proofs.format_severity.Tie as tie
@@ -14,13 +14,10 @@ use Rattle.attributes.proofs.format_severity.Tie as tie
 returns : tie.Need-returns
 returns c =
     let start : tie.Start = search in
-    let a = start .args in
-    let l = listingOf (a .d .now) (a .syntax) in
-    let at = c .before .before .before .before .before .look .ensures in
     let layout = c .before .before .before .layout-in in
-    mandatory-told blank (λ v. not (eqb (length (countsIn v)) 0)) l (look l 0x2010_0010) (at .0) (at .1) (c .before .before .before .before .value .ensures) (c .before .before .is-blank .ensures)
+    by-value blank (λ v. not (eqb (length (countsIn v)) 0)) _ (start .args .found) (c .before .before .before .before .before .seen .ensures .0) (c .before .before .before .before .value-of .ensures) (c .before .before .is-blank .ensures)
     (nots (eqb (layout .result .lines) 0) ∙ ap (λ (r : Layout). not (eqb (r .lines) 0)) (layout .ensures))
-    (c .severity .ensures)
+    severityBy (c .severity .ensures)
 
 pub format-severity-spec : {M : Type 1} → statement M
 format-severity-spec = tie.close (tie.spec (λ c κs. search needs) (λ c κs. search needs) (λ c κs. search needs) (λ c κs. search needs) (λ c κs. search needs) returns)

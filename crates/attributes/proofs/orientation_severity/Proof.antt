@@ -6,8 +6,8 @@ use Rattle.attributes.proofs.orientation_severity.Tie as tie
 
 returns : tie.Need-returns
 returns c =
-    let at = c .before .before .before .before .look .ensures in
-    code-told orientations _ _ (at .0) (at .1) (c .before .before .before .value .ensures) (c .before .before .is-blank .ensures) (c .before .orientation-in .ensures .0) (c .optional-severity .ensures)
+    let start : tie.Start = search in
+    code-told orientations _ (start .args .found) (c .before .before .before .before .seen .ensures .0) (c .before .before .before .value-of .ensures) (c .before .before .is-blank .ensures) (c .before .orientation-in .ensures .0) (c .optional-severity .ensures)
 
 pub orientation-severity-spec : {M : Type 1} → statement M
 orientation-severity-spec = tie.close (tie.spec (λ c κs. search needs) (λ c κs. search needs) (λ c κs. search needs) (λ c κs. search needs) (λ c κs. search needs) returns)

@@ -1,5 +1,4 @@
 use mathlib.Core.Path.{sym, ap, _∙_}
-use Rattle.elements.proofs.Laws.{found-whole}
 use Rattle.rules.specs.Attributes.{listingOf, imageOf, imageFound, imageIn}
 use Rattle.boxes.proofs.Laws.{sequence-in, sequence-meant}
 use borrow.Author.Needs.{needs}
@@ -7,24 +6,38 @@ use Rattle.boxes.proofs.image_in.Statement.{statement}
 use Rattle.boxes.proofs.image_in.Tie as tie
 
 items-in-requires : tie.Need-items-in-requires
-items-in-requires c κs = sequence-in _ _ _ _ (found-whole _ _ _ _ _ _ (c .before .before .before .before .data-scope .ensures .0) (c .before .before .before .find .ensures) (c .before .inside .given .1))
+items-in-requires c κs =
+    let o : tie.Start = search in
+    let e : tie.After-sequence = search in
+    sequence-in _ _ _ _ (sym (o .pre) ∙ e .sequence .given .1)
 
 returns : tie.Need-returns
 unfolding imageIn
 returns c =
-    let a = c .before .before .before .before .before .args in
-    (sym (ap (imageFound (listingOf (a .d .now) (a .syntax))) (found-whole _ _ _ _ _ _ (c .before .before .before .data-scope .ensures .0) (c .before .before .find .ensures) (c .enum-told .given .1))), tt)
+    let o : tie.Start = search in
+    (sym (ap (imageFound (listingOf (o .args .d .now) (o .args .syntax))) (sym (o .pre) ∙ c .enum-told .given .1)), tt)
 
 returns-2 : tie.Need-returns-2
 unfolding imageIn
 returns-2 c =
-    let a = c .before .before .before .before .before .args in
-    (sym (ap (imageFound (listingOf (a .d .now) (a .syntax))) (found-whole _ _ _ _ _ _ (c .before .before .before .data-scope .ensures .0) (c .before .before .find .ensures) (c .enum-told2 .given .1))), tt)
+    let o : tie.Start = search in
+    (sym (ap (imageFound (listingOf (o .args .d .now) (o .args .syntax))) (sym (o .pre) ∙ c .enum-told2 .given .1)), tt)
 
 returns-3 : tie.Need-returns-3
-returns-3 c = sequence-meant _ _ _ _ (found-whole _ _ _ _ _ _ (c .before .before .before .before .before .before .data-scope .ensures .0) (c .before .before .before .before .before .find .ensures) (c .before .before .before .inside .given .1)) (c .image-of .ensures ∙ ap imageOf (c .before .items-in .ensures))
+returns-3 c =
+    let o : tie.Start = search in
+    let e : tie.After-sequence = search in
+    sequence-meant _ _ _ _ (sym (o .pre) ∙ e .sequence .given .1) (c .image-of .ensures ∙ ap imageOf (c .before .items-in .ensures))
 
 pub image-in-spec : {M : Type 1} → statement M
 image-in-spec =
     tie.close
-    (tie.spec (λ c κs. search needs) (λ c κs. search needs) (λ c. search needs) (λ c. search needs) (λ c. search needs) items-in-requires (λ c κs. search needs) returns returns-2 returns-3)
+    (tie.spec
+    (λ c. search needs)
+    (λ c. search needs)
+    (λ c. search needs)
+    items-in-requires
+    (λ c κs. search needs)
+    returns
+    returns-2
+    returns-3)

@@ -1,22 +1,30 @@
-use mathlib.Core.Path.{ap, _∙_}
+use mathlib.Core.Path.{_∙_}
+use native.Mathlib.Omega.{arith}
 use borrow.Author.Tests.{eq-eqb, ne-eqb}
-use Rattle.octets.specs.Octets.{numberAt}
 use Rattle.rules.specs.Commands.{hasData}
+use Rattle.commands.specs.Places.{slotOf}
+use Rattle.commands.proofs.Held.{held-in, held-number}
 use borrow.Author.Needs.{needs}
 use Rattle.commands.proofs.has_data.Statement.{statement}
 use Rattle.commands.proofs.has_data.Tie as tie
 
+number-requires : tie.Need-number-requires
+unfolding slotOf
+number-requires c κs = let o : tie.Start = search in held-in (o .pre) 0x0000_0800 (omega arith)
+
 returns : tie.Need-returns
-unfolding hasData
+unfolding hasData slotOf
 returns c =
-    let n = c .before .number .ensures .0 ∙ ap (λ p. numberAt 2 (c .before .before .before .before .args .c .now) (p .from)) (c .before .before .place .ensures .0) in
+    let o : tie.Start = search in
+    let n = c .before .number .ensures .0 ∙ held-number (o .pre) 0x0000_0800 (omega arith) in
     simp (← n, eq-eqb _ _ (c .if1 .taken))
 
 returns-2 : tie.Need-returns-2
-unfolding hasData
+unfolding hasData slotOf
 returns-2 c =
-    let n = c .before .number .ensures .0 ∙ ap (λ p. numberAt 2 (c .before .before .before .before .args .c .now) (p .from)) (c .before .before .place .ensures .0) in
+    let o : tie.Start = search in
+    let n = c .before .number .ensures .0 ∙ held-number (o .pre) 0x0000_0800 (omega arith) in
     simp (← n, ne-eqb _ _ (c .if1 .left))
 
 pub has-data-spec : {M : Type 1} → statement M
-has-data-spec = tie.close (tie.spec (λ c κs. search needs) (λ c κs. search needs) returns returns-2)
+has-data-spec = tie.close (tie.spec (λ c. search needs) number-requires returns returns-2)

@@ -1,35 +1,64 @@
+use mathlib.Core.Path.{sym, _∙_}
+use denote.Ref.{now}
 use borrow.Author.Tests.{not-true, not-false}
+use Rattle.rules.specs.Layout.{filmFormat}
+use Rattle.distinct.proofs.Told.{film-told, boxes-told, own-among, own-taken, own-apart}
 use borrow.Author.Needs.{needs}
 use Rattle.distinct.proofs.film_apart.Statement.{statement}
 use Rattle.distinct.proofs.film_apart.Tie as tie
 
 returns : tie.Need-returns
-returns c = simp (← (c .before .before .own-count .ensures .0), ← (c .before .free-of-film .ensures), not-true (c .before .free-of-film .result) (c .if1 .taken))
+returns c =
+    let start : tie.Start = search in
+    let name : tie.After-made-at = search in
+    let serial : tie.After-own-count = search in
+    let b = now (start .args .b) in
+    let p = start .args .p in
+    let own = film-told b p _ _ (name .made-at .ensures .0) (serial .own-count .ensures .0) in
+    let first : tie.After-first-at = search in
+    let count : tie.After-box-count = search in
+    let boxes = boxes-told (filmFormat .read b p) _ _ (first .first-at .ensures .0) (count .box-count .ensures .0) in
+    own-among (filmFormat .read b p) _ _ own boxes _ (sym (c .before .overlapping .ensures) ∙ c .if1 .taken)
 
 returns-2 : tie.Need-returns-2
-returns-2 c = simp (← (c .before .before .before .before .own-count .ensures .0), ← (c .before .before .before .free-of-film .ensures), not-false (c .before .before .before .free-of-film .result) (c .before .before .if1 .left), ← (c .before .film-serials-apart .ensures), not-true (c .before .film-serials-apart .result) (c .if2 .taken))
+returns-2 c =
+    let start : tie.Start = search in
+    let name : tie.After-made-at = search in
+    let serial : tie.After-own-count = search in
+    let b = now (start .args .b) in
+    let p = start .args .p in
+    let own = film-told b p _ _ (name .made-at .ensures .0) (serial .own-count .ensures .0) in
+    let first : tie.After-first-at = search in
+    let count : tie.After-box-count = search in
+    let boxes = boxes-told (filmFormat .read b p) _ _ (first .first-at .ensures .0) (count .box-count .ensures .0) in
+    let past : tie.Else1 = search in
+    own-taken (filmFormat .read b p) _ _ own boxes _ (sym (past .before .overlapping .ensures) ∙ past .if1 .left) (sym (c .before .serials-free .ensures) ∙ not-true (c .before .serials-free .result) (c .if2 .taken))
 
 returns-3 : tie.Need-returns-3
 returns-3 c =
-    let after-own-count : tie.After-own-count = search in
-    simp (← (after-own-count .own-count .ensures .0), ← (c .before .before .before .before .before .before .free-of-film .ensures), not-false (c .before .before .before .before .before .before .free-of-film .result) (c .before .before .before .before .before .if1 .left), ← (c .before .before .before .before .film-serials-apart .ensures), not-false (c .before .before .before .before .film-serials-apart .result) (c .before .before .before .if2 .left), ← (c .before .same-text .ensures), c .if3 .taken)
-
-returns-4 : tie.Need-returns-4
-returns-4 c =
-    let after-free-of-film : tie.After-free-of-film = search in
-    simp (← (after-free-of-film .before .own-count .ensures .0), ← (after-free-of-film .free-of-film .ensures), not-false (after-free-of-film .free-of-film .result) (c .before .before .before .before .before .before .if1 .left), ← (c .before .before .before .before .before .film-serials-apart .ensures), not-false (c .before .before .before .before .before .film-serials-apart .result) (c .before .before .before .before .if2 .left), ← (c .before .before .same-text .ensures), c .before .if3 .left, ← (c .text-free .ensures))
+    let start : tie.Start = search in
+    let name : tie.After-made-at = search in
+    let serial : tie.After-own-count = search in
+    let b = now (start .args .b) in
+    let p = start .args .p in
+    let own = film-told b p _ _ (name .made-at .ensures .0) (serial .own-count .ensures .0) in
+    let first : tie.After-first-at = search in
+    let count : tie.After-box-count = search in
+    let boxes = boxes-told (filmFormat .read b p) _ _ (first .first-at .ensures .0) (count .box-count .ensures .0) in
+    let past : tie.Else1 = search in
+    own-apart (filmFormat .read b p) _ _ own boxes _ (sym (past .before .overlapping .ensures) ∙ past .if1 .left) _ (sym (c .before .before .serials-free .ensures) ∙ not-false (c .before .before .serials-free .result) (c .before .if2 .left)) (c .serials-free2 .ensures)
 
 pub film-apart-spec : {M : Type 1} → statement M
 film-apart-spec =
     tie.close
     (tie.spec
-    (λ c. search needs)
+    (λ c κs. search needs)
+    (λ c κs. search needs)
+    (λ c κs. search needs)
     (λ c κs. search needs)
     (λ c κs. search needs)
     returns
     (λ c κs. search needs)
     returns-2
     (λ c κs. search needs)
-    returns-3
-    (λ c κs. search needs)
-    returns-4)
+    returns-3)

@@ -1,36 +1,56 @@
 use Prim.Native.Nat.{_-_}
-use mathlib.Core.Path.{_≡_, refl, sym, _∙_}
+use mathlib.Core.Path.{_≡_, refl, sym, ap, _∙_}
+use mathlib.Core.Logic.{⊎-elim}
 use native.Mathlib.Omega.{arith}
 use lib.Dec.{ltb}
-use lib.ListN.{length, drop}
-use borrow.Author.Tests.{le-ltb, lt-ltb}
+use lib.ListN.{take, drop}
+use lib.Seq.{take-all}
+use denote.Ref.{now}
+use Rattle.choice.specs.Pick.{both}
+use Rattle.fields.specs.Format.{readAll, array}
 use Rattle.rules.specs.declared.Picture.{Picture}
+use Rattle.rules.specs.Bounds.{mostBoxes}
+use Rattle.rules.specs.Layout.{pictureFormat}
 use Rattle.rules.specs.Lists.{every}
-use Rattle.names.proofs.Every.{every-on, every-not, every-end}
+use Rattle.distinct.proofs.Arrays.{flag-on, flag-not, flag-end}
 use borrow.Author.Needs.{needs}
 use Rattle.entries.proofs.pictures_below.Statement.{statement}
 use Rattle.entries.proofs.pictures_below.Tie as tie
 
 abbrev Inv-loop : tie.InvT-loop
-Inv-loop next xs i₀ i = (length xs ≡ 36) × (every (λ (p : Picture). ltb (p .0) next) xs ≡ every (λ (p : Picture). ltb (p .0) next) (drop i xs))
+Inv-loop b p next below₀ i₀ below i =
+    every (λ (x : Picture). ltb (x .0) next) (array mostBoxes pictureFormat .read b p)
+    ≡ both below (every (λ (x : Picture). ltb (x .0) next) (drop i (take mostBoxes (array mostBoxes pictureFormat .read b p))))
 
 abbrev μ-loop : tie.MeasureT-loop
-μ-loop next xs i₀ i = 36 - i
+μ-loop b p next below₀ i₀ below i = mostBoxes - i
 
 loop-holds : tie.Need-loop-holds Inv-loop μ-loop
-loop-holds c = (search needs, refl)
-
-returns : tie.Need-returns Inv-loop μ-loop
-returns c = let o = c .before .before .before .before .loop in
-    sym (o .inv .1 ∙ every-not (λ (p : Picture). ltb (p .0) _) _ _ (o .i) (omega (arith, o .inv .0, c .before .before .before .loop-test .taken)) (le-ltb _ _ (c .if1 .taken)))
+unfolding readAll
+loop-holds c =
+    let start : tie.Start Inv-loop μ-loop = search in
+    let a = start .args in
+    let pictures = array mostBoxes pictureFormat .read (now (a .b)) (a .p) in
+    ap (every (λ (x : Picture). ltb (x .0) (a .next))) (sym (take-all mostBoxes pictures (omega arith)))
 
 loop-again : tie.Need-loop-again Inv-loop μ-loop
-loop-again c = let o = c .before .before .before .before .loop in
-    (search needs, o .inv .1 ∙ every-on (λ (p : Picture). ltb (p .0) _) _ _ (o .i) (omega (arith, o .inv .0, c .before .before .before .loop-test .taken)) (lt-ltb _ _ (c .if1 .left)))
+unfolding readAll pictureFormat
+loop-again c =
+    let start : tie.Start Inv-loop μ-loop = search in
+    let a = start .args in
+    let o = c .before .before .before .loop in
+    let x = c .before .picture-below in
+    ⊎-elim
+    (λ w. o .inv ∙ flag-not pictureFormat (now (a .b)) (a .p) mostBoxes mostBoxes (o .i) (λ (x : Picture). ltb (x .0) (a .next)) refl _ refl (c .before .before .loop-test .taken) (omega arith) (x .result) (x .ensures) (o .below) (w .0 .taken) ∙ rw (w .1))
+    (λ w. o .inv ∙ flag-on pictureFormat (now (a .b)) (a .p) mostBoxes mostBoxes (o .i) (λ (x : Picture). ltb (x .0) (a .next)) refl _ refl (c .before .before .loop-test .taken) (omega arith) (x .result) (x .ensures) (o .below) (w .0 .left) ∙ rw (w .1))
+    (c .if1 .came)
 
-returns-2 : tie.Need-returns-2 Inv-loop μ-loop
-returns-2 c = let o = c .before .loop in
-    sym (o .inv .1 ∙ every-end (λ (p : Picture). ltb (p .0) _) _ (o .i) (omega (arith, o .inv .0, c .loop-test .left)))
+returns : tie.Need-returns Inv-loop μ-loop
+returns c =
+    let start : tie.Start Inv-loop μ-loop = search in
+    let a = start .args in
+    let o = c .before .loop in
+    sym (o .inv ∙ flag-end pictureFormat (now (a .b)) (a .p) mostBoxes mostBoxes (o .i) (λ (x : Picture). ltb (x .0) (a .next)) (o .below) (c .loop-test .left))
 
 pub pictures-below-spec : {M : Type 1} → statement M
 pictures-below-spec =
@@ -41,9 +61,8 @@ pictures-below-spec =
     loop-holds
     (λ c. search needs)
     (λ c. search needs)
-    (λ c. search needs)
-    returns
+    (λ c κs. search needs)
     (λ c. search needs)
     (λ c. search needs)
     loop-again
-    returns-2)
+    returns)

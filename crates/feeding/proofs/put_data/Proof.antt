@@ -10,7 +10,7 @@ put-new-boxes-requires : tie.Need-put-new-boxes-requires
 put-new-boxes-requires c κs =
     let o : tie.Start = search in
     let told : tie.After-contents = search in
-    (o .pre .0, o .pre .1, subst ContentsFit (told .contents .given .1) (o .pre .2))
+    (o .pre .0, o .pre .1, o .pre .2, subst ContentsFit (told .contents .given .1) (o .pre .3))
 
 returns : tie.Need-returns
 returns c =

@@ -51,7 +51,7 @@ returns-4 : tie.Need-returns-4 Inv-loop μ-loop
 returns-4 c =
     let t = c .before .before .before in
     let o = t .before .before .before .before .before .before in
-    c .given .ensures
+    c .given .ensures .0
     ∙ sym (o .loop .inv .1 ∙ find-given _ _ _ (o .loop .inv .0) _ _ _ refl (sym (t .before .before .before .before .before .closing .ensures) ∙ t .before .before .before .enum-told2 .given .1) (sym (t .tag-at .ensures .0) ∙ c .before .if3 .taken))
 
 loop-less : tie.Need-loop-less Inv-loop μ-loop

@@ -1,15 +1,19 @@
 use mathlib.Core.Path.{_∙_}
-use borrow.Author.Tests.{eq-eqb, ne-eqb}
+use Rattle.instances.proofs.InPlace.{session-dead, session-live}
 use borrow.Author.Needs.{needs}
 use Rattle.instances.proofs.is_session.Statement.{statement}
 use Rattle.instances.proofs.is_session.Tie as tie
 
 returns : tie.Need-returns
-returns c = let here : tie.After-the-session = search in simp (← (here .the-session .ensures), eq-eqb _ _ (c .if1 .taken))
+returns c =
+    let start : tie.Start = search in
+    session-dead (start .args .b .now) (start .args .uid .now) (c .if1 .taken)
 
 returns-2 : tie.Need-returns-2
-returns-2 c = let here : tie.After-the-session = search in c .is-named .ensures ∙ simp (← (here .the-session .ensures), ne-eqb _ _ (c .before .before .if1 .left))
+returns-2 c =
+    let start : tie.Start = search in
+    c .is-name .ensures ∙ session-live (start .args .b .now) (start .args .uid .now) (c .before .if1 .left)
 
 pub is-session-spec : {M : Type 1} → statement M
-is-session-spec = tie.close (tie.spec
-    (λ c κs. search needs) returns (λ c κs. search needs) returns-2)
+is-session-spec =
+    tie.close (tie.spec (λ c. search needs) returns (λ c. search needs) (λ c κs. search needs) returns-2)

@@ -1,52 +1,71 @@
-use borrow.Author.Tests.{le-leb, lt-leb, not-true, not-false}
-use Rattle.rules.specs.Lists.{every}
-use Rattle.rules.specs.Records.{rootOf}
-use Rattle.choice.proofs.Picks.{both-only}
+use Prim.Native.Nat.{_+_}
+use native.Mathlib.Omega.{arith}
+use denote.Ref.{now}
+use borrow.Author.Tests.{not-true, not-false}
+use Rattle.choice.proofs.Picks.{both-fails}
+use Rattle.records.specs.Places.{numbersIn}
+use Rattle.names.proofs.InPlace.{sent-none, sent-long, sent-told}
 use borrow.Author.Needs.{needs}
 use Rattle.names.proofs.sent_sound.Statement.{statement}
 use Rattle.names.proofs.sent_sound.Tie as tie
 
+cast-used : tie.Need-cast-used
+cast-used c = let start : tie.Start = search in omega (arith, c .shared-slice-known2 .given (start .args .p + 4))
+
 returns : tie.Need-returns
-unfolding every rootOf
-returns c = simp (lt-leb _ _ (c .if1 .taken))
+returns c = let start : tie.Start = search in
+    sent-none (numbersIn (now (start .args .b))) (now (start .args .b)) (start .args .p) (start .pre .1) (c .if1 .taken)
 
 returns-2 : tie.Need-returns-2
-unfolding every rootOf
-returns-2 c = simp (le-leb _ _ (c .before .if1 .left), lt-leb _ _ (c .if2 .taken))
+returns-2 c = let start : tie.Start = search in
+    sent-long (numbersIn (now (start .args .b))) (now (start .args .b)) (start .args .p) (start .pre .1) (c .if2 .taken)
 
 returns-3 : tie.Need-returns-3
-unfolding every rootOf
-returns-3 c = simp (le-leb _ _ (c .before .before .before .before .before .if1 .left), le-leb _ _ (c .before .before .before .before .if2 .left), ← (c .before .begins-uid .ensures), not-true (c .before .begins-uid .result) (c .if3 .taken), both-only)
+returns-3 c =
+    let start : tie.Start = search in
+    let fits : tie.Else2 = search in
+    let uid : tie.After-is-uid = search in
+    sent-told (numbersIn (now (start .args .b))) (now (start .args .b)) (start .args .p) (start .pre .1) _ (fits .before .if1 .left) (fits .if2 .left)
+    (simp (← (uid .is-uid .ensures), not-true (uid .is-uid .result) (c .if3 .taken)))
 
 returns-4 : tie.Need-returns-4
-unfolding every rootOf
 returns-4 c =
-    let after-begins-uid : tie.After-begins-uid = search in
-    let else2 : tie.Else2 = search in
-    simp (le-leb _ _ (else2 .before .if1 .left), le-leb _ _ (else2 .if2 .left), ← (after-begins-uid .begins-uid .ensures), not-false (after-begins-uid .begins-uid .result) (c .before .before .before .before .before .before .if3 .left), ← (c .before .rooted .ensures), c .if4 .taken, both-only)
+    let start : tie.Start = search in
+    let fits : tie.Else2 = search in
+    let begins : tie.After-begins-with = search in
+    sent-told (numbersIn (now (start .args .b))) (now (start .args .b)) (start .args .p) (start .pre .1) _ (fits .before .if1 .left) (fits .if2 .left)
+    (simp (← (begins .before .root-in .ensures), ← (begins .begins-with .ensures), c .if4 .taken, both-fails))
 
 returns-5 : tie.Need-returns-5
-unfolding every rootOf
 returns-5 c =
-    let else3 : tie.Else3 = search in
-    let else2 : tie.Else2 = search in
-    simp (le-leb _ _ (else2 .before .if1 .left), le-leb _ _ (else2 .if2 .left), ← (else3 .before .begins-uid .ensures), not-false (else3 .before .begins-uid .result) (else3 .if3 .left), ← (c .before .before .before .rooted .ensures), c .before .before .if4 .left, ← (c .zeros-from .ensures), both-only)
+    let start : tie.Start = search in
+    let fits : tie.Else2 = search in
+    let uid : tie.Else3 = search in
+    let begins : tie.Else4 = search in
+    sent-told (numbersIn (now (start .args .b))) (now (start .args .b)) (start .args .p) (start .pre .1) _ (fits .before .if1 .left) (fits .if2 .left)
+    (simp (← (uid .before .is-uid .ensures), not-false (uid .before .is-uid .result) (uid .if3 .left), ← (begins .before .before .root-in .ensures), ← (begins .before .begins-with .ensures), begins .if4 .left, ← (c .zeros-in .ensures)))
 
 pub sent-sound-spec : {M : Type 1} → statement M
 sent-sound-spec =
     tie.close
     (tie.spec
     (λ c. search needs)
+    (λ c. search needs)
+    cast-used
     returns
     returns-2
     (λ c. search needs)
+    (λ c. search needs)
+    (λ c. search needs)
+    (λ c. search needs)
+    (λ c. search needs)
+    (λ c. search needs)
     (λ c κs. search needs)
     returns-3
-    (λ c. search needs)
-    (λ c. search needs)
-    (λ c. search needs)
+    (λ c κs. search needs)
     (λ c κs. search needs)
     returns-4
+    (λ c. search needs)
     (λ c. search needs)
     (λ c κs. search needs)
     returns-5)

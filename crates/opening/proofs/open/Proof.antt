@@ -1,36 +1,49 @@
-use mathlib.Core.Path.{sym, _∙_}
+use mathlib.Core.Path.{_≡_, sym, _∙_}
+use Prim.Native.Nat.{_≤_}
 use denote.Ref.{now}
-use Rattle.soundness.proofs.Records.{Found, found, found-long}
-use Rattle.opening.proofs.Answers.{open-unread, open-refused, open-done, open-fits}
+use lib.ListN.{length}
+use Rattle.choice.specs.Rules.{firstBroken}
+use Rattle.rules.specs.Layout.{recordsSize}
+use Rattle.rules.specs.Outcomes.{recordsRules}
+use Rattle.records.specs.Places.{coreIn}
+use Rattle.opening.proofs.Answers.{accepted-long, open-unread, open-refused, open-done, open-fits}
 use borrow.Author.Needs.{needs}
 use Rattle.opening.proofs.open.Statement.{statement}
 use Rattle.opening.proofs.open.Tie as tie
 
-abbrev start : tie.After-unpack-checked → tie.Start
+abbrev start : tie.After-refusal → tie.Start
 start c = c .before .before .before .before
 
 -- the records are accepted
-accepted : (c : tie.Else1) → Found (now (start (c .before .before) .args .records)) (c .before .before .unpack-checked .result .state)
-accepted c = found (c .before .before .unpack-checked .ensures) (c .if1 .left)
+accepted : (c : tie.Else1) → firstBroken (recordsRules (now (start (c .before) .args .records))) ≡ 0
+accepted c = sym (c .before .refusal .ensures) ∙ c .if1 .left
+
+long : (c : tie.Else1) → recordsSize ≤ length (now (start (c .before) .args .records))
+long c = accepted-long (now (start (c .before) .args .records)) (accepted c)
 
 returns : tie.Need-returns
-returns c = open-unread _ _ _ (c .before .before .unpack-checked .ensures .0) (c .if1 .taken)
+returns c = open-unread _ _ _ (c .before .refusal .ensures) (c .if1 .taken)
+
+open-refusal-requires : tie.Need-open-refusal-requires
+open-refusal-requires c κs = let k : tie.Else1 = search in long k
 
 returns-2 : tie.Need-returns-2
-returns-2 c = let k : tie.Else1 = search in open-refused (accepted k) _ _ (c .before .open-refusal .ensures) (c .if2 .taken)
+returns-2 c = let k : tie.Else1 = search in open-refused _ (accepted k) _ _ (c .before .open-refusal .ensures) (c .if2 .taken)
 
-opened-requires : tie.Need-opened-requires
-opened-requires c κs = let k : tie.After-unpack-checked = search in open-fits (k .unpack-checked .result .state .core) _ _ _ (sym (c .before .open-refusal .ensures) ∙ c .if2 .left)
-
-put-core-requires : tie.Need-put-core-requires
-put-core-requires c κs = let k : tie.Else1 = search in found-long (accepted k)
+put-open-requires : tie.Need-put-open-requires
+put-open-requires c κs =
+    let k : tie.Else1 = search in
+    let kept : tie.Else2 = search in
+    let o = start (k .before) in
+    let fits = open-fits (coreIn (now (o .args .records))) _ _ _ (sym (kept .before .open-refusal .ensures) ∙ kept .if2 .left) in
+    (long k, fits .0, fits .1, fits .2)
 
 returns-3 : tie.Need-returns-3
 returns-3 c =
     let k : tie.Else1 = search in
     let kept : tie.Else2 = search in
-    let now-open : tie.After-opened = search in
-    rw (c .before .before .put-core .ensures, now-open .opened .ensures) (open-done (accepted k) _ (sym (kept .before .open-refusal .ensures) ∙ kept .if2 .left))
+    let put : tie.After-put-open = search in
+    rw (put .put-open .ensures) (open-done _ (accepted k) _ (sym (kept .before .open-refusal .ensures) ∙ kept .if2 .left))
 
 pub open-spec : {M : Type 1} → statement M
 open-spec =
@@ -39,10 +52,9 @@ open-spec =
     (λ c κs. search needs)
     (λ c. search needs)
     returns
-    (λ c κs. search needs)
+    open-refusal-requires
     (λ c. search needs)
     returns-2
-    opened-requires
-    put-core-requires
+    put-open-requires
     (λ c. search needs)
     returns-3)

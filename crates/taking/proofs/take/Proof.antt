@@ -1,70 +1,76 @@
 use Prim.Native.Nat.{ℕ}
-use mathlib.Core.Path.{_≡_, sym, _∙_}
+use mathlib.Core.Path.{_≡_, sym, ap, _∙_}
+use mathlib.Core.List.{List}
 use denote.Ref.{now}
 use native.Mathlib.Omega.{arith}
 use lib.ListN.{length}
 use Rattle.choice.specs.Rules.{firstBroken}
-use Rattle.octets.specs.Octets.{Bytes}
+use Rattle.octets.specs.Octets.{laid, Bytes}
 use Rattle.rules.specs.Calls.{takeRules, taken}
-use Rattle.soundness.proofs.Records.{Found, found, found-long}
+use Rattle.rules.specs.Outcomes.{recordsRules}
+use Rattle.records.specs.Places.{coreIn}
 use Rattle.taking.proofs.Answers.{take-unread, take-refused, take-done}
-use Rattle.taking.proofs.Entry.{Ready, ready, ready-tidy, oldest-asked, put-asked, left-asked}
+use Rattle.taking.proofs.Entry.{long, tidy, oldest-asked, left-asked, taken-bytes}
 use borrow.Author.Needs.{needs}
 use Rattle.taking.proofs.take.Statement.{statement}
 use Rattle.taking.proofs.take.Tie as tie
 
-abbrev start : tie.After-unpack-checked → tie.Start
+abbrev start : tie.After-refusal → tie.Start
 start c = c .before .before .before .before
+
+abbrev b : tie.After-refusal → List ℕ
+b c = now (start c .args .records)
 
 bytes : (c : tie.After-slice-known) → Bytes (now (c .before .args .records))
 bytes c i = omega (arith, c .slice-known .given i)
 
 -- the records are accepted
-accepted : (c : tie.Else1) → Found (now (start (c .before .before) .args .records)) (c .before .before .unpack-checked .result .state)
-accepted c = found (c .before .before .unpack-checked .ensures) (c .if1 .left)
-
-told : (c : tie.Else1) → Ready (c .before .before .unpack-checked .result .state .core)
-told c = ready (accepted c) (bytes (search))
+accepted : (c : tie.Else1) → firstBroken (recordsRules (b (c .before))) ≡ 0
+accepted c = sym (c .before .refusal .ensures) ∙ c .if1 .left
 
 -- no rule of the take is broken
 abbrev looked : tie.Else2 → tie.Else1
-looked c = c .before .before .before .before
+looked c = c .before .before .before
 
 abbrev room : tie.Else2 → ℕ
-room c = length (now (start (looked c .before .before) .args .entry))
+room c = length (now (start (looked c .before) .args .entry))
 
-unbroken : (c : tie.Else2) → firstBroken (takeRules (looked c .before .before .unpack-checked .result .state .core) (room c)) ≡ 0
+unbroken : (c : tie.Else2) → firstBroken (takeRules (coreIn (b (looked c .before))) (room c)) ≡ 0
 unbroken c = sym (c .before .take-refusal .ensures) ∙ c .if2 .left
 
 returns : tie.Need-returns
-returns c = take-unread _ _ _ (c .before .before .unpack-checked .ensures .0) (c .if1 .taken)
+returns c = take-unread _ _ _ (c .before .refusal .ensures) (c .if1 .taken)
 
 take-refusal-requires : tie.Need-take-refusal-requires
-take-refusal-requires c κs = ready-tidy _ (told (c .before .before))
+take-refusal-requires c κs =
+    let k : tie.Else1 = search in
+    let s : tie.After-slice-known = search in
+    (long (b (k .before)) (bytes s) (accepted k), tidy (b (k .before)) (bytes s) (accepted k))
 
 returns-2 : tie.Need-returns-2
-returns-2 c = let k : tie.Else1 = search in take-refused (accepted k) _ _ (c .before .take-refusal .ensures) (c .if2 .taken)
+returns-2 c = let k : tie.Else1 = search in take-refused _ _ (accepted k) _ (c .before .take-refusal .ensures) (c .if2 .taken)
 
-oldest-requires : tie.Need-oldest-requires
-oldest-requires c κs = let k : tie.Else2 = search in oldest-asked _ (room k) (told (looked k)) (unbroken k)
+put-oldest-requires : tie.Need-put-oldest-requires
+put-oldest-requires c κs =
+    let k : tie.Else2 = search in
+    let s : tie.After-slice-known = search in
+    oldest-asked _ (bytes s) (accepted (looked k)) (room k) (unbroken k)
 
-put-entry-bytes-requires : tie.Need-put-entry-bytes-requires
-put-entry-bytes-requires c κs = let k : tie.Else2 = search in put-asked _ (room k) (told (looked k)) (unbroken k) _ (c .oldest .ensures)
-
-without-oldest-requires : tie.Need-without-oldest-requires
-without-oldest-requires c κs = let k : tie.Else2 = search in left-asked _ (room k) (told (looked k)) (unbroken k)
-
-put-state-requires : tie.Need-put-state-requires
-put-state-requires c κs = let k : tie.Else1 = search in found-long (accepted k)
+drop-oldest-requires : tie.Need-drop-oldest-requires
+drop-oldest-requires c κs =
+    let k : tie.Else2 = search in
+    let s : tie.After-slice-known = search in
+    left-asked _ (bytes s) (accepted (looked k)) (room k) (unbroken k)
 
 returns-3 : tie.Need-returns-3
 unfolding taken
 returns-3 c =
     let k : tie.Else2 = search in
-    let left : tie.After-without-oldest = search in
-    let put : tie.After-put-entry-bytes = search in
-    take-done (accepted (looked k)) _ (unbroken k) _ _ _ (left .without-oldest .ensures) (c .before .before .put-state .ensures)
-    (rw (← (put .before .oldest .ensures)) (put .put-entry-bytes .ensures))
+    let s : tie.After-slice-known = search in
+    let put : tie.After-put-oldest = search in
+    let left : tie.After-drop-oldest = search in
+    take-done (b (looked k .before)) _ (accepted (looked k)) (unbroken k) _ _ (left .drop-oldest .ensures)
+    (put .put-oldest .ensures ∙ ap (laid _ 0) (taken-bytes (b (looked k .before)) (bytes s) (accepted (looked k)) (room k) (unbroken k)))
 
 pub take-spec : {M : Type 1} → statement M
 take-spec =
@@ -76,10 +82,8 @@ take-spec =
     take-refusal-requires
     (λ c. search needs)
     returns-2
-    oldest-requires
-    put-entry-bytes-requires
-    without-oldest-requires
-    put-state-requires
+    put-oldest-requires
+    drop-oldest-requires
     (λ c. search needs)
     (λ c. search needs)
     returns-3)

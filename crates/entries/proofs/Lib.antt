@@ -1,0 +1,2 @@
+-- Entries and the queue, tested by their bytes.
+mod Queue

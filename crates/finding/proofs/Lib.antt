@@ -1,0 +1,2 @@
+-- The laws that the functions rest on.
+mod Gathering

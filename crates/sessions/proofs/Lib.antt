@@ -1,0 +1,2 @@
+-- A session and its label by their bytes.
+mod InPlace
