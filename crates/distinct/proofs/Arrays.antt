@@ -8,7 +8,7 @@ use native.Mathlib.Numerals.{add-one}
 use native.Mathlib.Omega.{arith}
 use lib.ListN.{length, take, drop, length-take, drop_of_length-le}
 use lib.Seq.{drop-cons, get_or-take}
-use borrow.Author.Tests.{not_true, not_false}
+use borrow.Author.Tests.{not-true, not-false}
 use Rattle.choice.specs.Pick.{both}
 use Rattle.choice.proofs.Picks.{both_fails, both_only}
 use Rattle.fields.specs.Format.{Format, read_all}
@@ -36,11 +36,11 @@ module _ {A : Type 0} (f : Format A) (b : List ℕ) (at n k i : ℕ) where
 
       -- it passes: the next ones
       pub read_on : not told ≡ false → every test (drop i (take k (read_all f b at n))) ≡ every test (drop (i + 1) (take k (read_all f b at n)))
-      read_on t = turn ∙ rw (not_false told t)
+      read_on t = turn ∙ rw (not-false told t)
 
       -- it does not
       pub read_not : not told ≡ true → every test (drop i (take k (read_all f b at n))) ≡ false
-      read_not t = turn ∙ rw (not_true told t)
+      read_not t = turn ∙ rw (not-true told t)
 
       -- the same where a flag says whether all passed so far
       pub flag_on : (flag : Bool) → not told ≡ false → both flag (every test (drop i (take k (read_all f b at n)))) ≡ both flag (every test (drop (i + 1) (take k (read_all f b at n))))

@@ -33,7 +33,7 @@ text_free_lem text = record { none = refl; more = λ f films. refl }
 pub no_text : (text : List ℕ) (films : List Film) → text ≡ [] → text_free text films ≡ true
 unfolding text_free every
 no_text text [] e = refl
-no_text text (f ∷ films) e = rw (e, no_text [] films refl)
+no_text text (f ∷ films) e = rw e (no_text text films e)
 
 pub texts_apart_lem : Stepwise texts_apart (λ f films. text_free (film_text f) films)
 unfolding texts_apart text_free apart

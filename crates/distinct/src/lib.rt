@@ -1,4 +1,5 @@
 // Distinct: "UIDs differ", made ones by their serials, sent ones by their characters, each read where it lies.
+#![tactic(auto)]
 ghost use Rattle.std.specs.Prelude.{◌≡◌, ◌+◌, ◌<◌, ◌≤◌, [], ◌∷◌, eqb, length, drop};
 ghost use Rattle.choice.specs.Pick.{pick};
 ghost use Rattle.rules.specs.Lists.{apart};

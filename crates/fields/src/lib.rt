@@ -1,5 +1,6 @@
 // Fields: how values stand in bytes. Most of it is definitions and their laws; the code is what reads and writes the numbers
 // and the byte arrays of records.
+#![tactic(auto)]
 ghost use Rattle.std.specs.Prelude.{◌≡◌, ◌+◌, ◌≤◌, ◌<◌, length};
 ghost use Rattle.fields.specs.Format.{write, byte, number, array};
 
@@ -37,7 +38,7 @@ fn bytes_at(s: &[u8], at: usize, d: &mut [u8])
     ensures { d.new ≡ (array (length d.old) byte).read s.now at }
 {
     let end = at + d.len();
-    bytes::copy(&s[at..end], d);
+    d.copy_from_slice(&s[at..end]);
 }
 
 pub fn bytes6_at(s: &[u8], at: usize) -> [u8; 6]

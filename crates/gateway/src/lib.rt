@@ -1,4 +1,5 @@
 // Gateway: the calls that C links.
+#![tactic(auto)]
 ghost use Rattle.runs.specs.CallContracts.{StartMet, OpenMet, FeedMet, CloseMet, TakeMet};
 
 #[unsafe(no_mangle)]

@@ -1,4 +1,6 @@
 // Octets: numbers of any width in a slice of bytes, its first bytes, comparing two parts, and laying bytes into a slice.
+#![tactic(auto)]
+
 ghost use Rattle.std.specs.Prelude.{◌≡◌, ◌+◌, ◌≤◌, ◌<◌, ◌^◌, ◌%◌, length, take};
 ghost use Rattle.octets.specs.Octets.{number_at, big_number_at, octets, laid, same};
 
@@ -82,7 +84,7 @@ pub fn put(s: &mut [u8], at: usize, bytes: &[u8])
     requires { at + length bytes.now ≤ length s.old }
     ensures { s.new ≡ laid s.old at bytes.now }
 {
-    bytes::copy(bytes, &mut s[at..]);
+    s[at..at + bytes.len()].copy_from_slice(bytes);
 }
 
 // The first n bytes, or all where there are fewer.

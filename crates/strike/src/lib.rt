@@ -1,4 +1,5 @@
 // Demand 3 over any service: definitions in specs/, theorems in proofs/, and no code. Two types are shared with code.
+#![tactic(auto)]
 
 // A command set that is collected: unreadable, or a request without or with a data set.
 #[derive(Drop)]

@@ -1,6 +1,7 @@
 // Makes the calls of the kept traces (tests/traces) on the gateway, and holds each reply to the kept one. The arguments
 // are a trace and its replies, by turns. Writes a line for each trace: how many replies were as kept, and whether
 // another came then.
+#![tactic(auto)]
 mod calls;
 mod replies;
 mod words;

@@ -1,5 +1,5 @@
 use mathlib.Core.Path.{◌∙◌}
-use borrow.Author.Tests.{not_false, not_true}
+use borrow.Author.Tests.{not-false, not-true}
 use Rattle.commands.specs.Requests.{deletion_in, known_as, target_in}
 use borrow.Author.Rules.{rules}
 use Rattle.commands.proofs.deletion.Statement.{statement}
@@ -7,11 +7,11 @@ use Rattle.commands.proofs.deletion.Tie as tie
 
 returns : tie.Need-returns
 unfolding deletion_in known_as target_in
-returns c = simp (← c.before.has-target.ensures, not_true c.before.has-target.result c.if1.true)
+returns c = simp (← c.before.has-target.ensures, not-true c.before.has-target.result c.if1.true)
 
 returns_2 : tie.Need-returns-2
 unfolding deletion_in known_as target_in
-returns_2 c = c.known.ensures ∙ simp (← c.before.before.before.has-target.ensures, not_false c.before.before.before.has-target.result c.before.before.if1.false, ← c.before.target.ensures)
+returns_2 c = c.known.ensures ∙ simp (← c.before.before.before.has-target.ensures, not-false c.before.before.before.has-target.result c.before.before.if1.false, ← c.before.target.ensures)
 
 pub deletion-spec : {M : Type 1} → statement M
 deletion-spec =

@@ -1,5 +1,5 @@
 use mathlib.Core.Path.{sym, ◌∙◌}
-use borrow.Author.Tests.{not_true, not_false}
+use borrow.Author.Tests.{not-true, not-false}
 use Rattle.rules.specs.Layout.{film_format}
 use Rattle.distinct.proofs.Told.{film_told, boxes_told, own_among, own_taken, own_apart}
 use borrow.Author.Rules.{rules}
@@ -31,7 +31,7 @@ returns_2 c =
     let count : tie.After-box-count = search in
     let boxes = boxes_told (film_format.read b p) _ _ first.first-at.ensures.0 count.box-count.ensures.0 in
     let past : tie.Else1 = search in
-    own_taken (film_format.read b p) _ _ own boxes _ (sym past.before.overlapping.ensures ∙ past.if1.left) (sym c.before.serials-free.ensures ∙ not_true c.before.serials-free.result c.if2.true)
+    own_taken (film_format.read b p) _ _ own boxes _ (sym past.before.overlapping.ensures ∙ past.if1.left) (sym c.before.serials-free.ensures ∙ not-true c.before.serials-free.result c.if2.true)
 
 returns-3 : tie.Need-returns-3
 returns-3 c =
@@ -45,7 +45,7 @@ returns-3 c =
     let count : tie.After-box-count = search in
     let boxes = boxes_told (film_format.read b p) _ _ first.first-at.ensures.0 count.box-count.ensures.0 in
     let past : tie.Else1 = search in
-    own_apart (film_format.read b p) _ _ own boxes _ (sym past.before.overlapping.ensures ∙ past.if1.left) _ (sym c.before.before.serials-free.ensures ∙ not_false c.before.before.serials-free.result c.before.if2.false) c.serials-free2.ensures
+    own_apart (film_format.read b p) _ _ own boxes _ (sym past.before.overlapping.ensures ∙ past.if1.left) _ (sym c.before.before.serials-free.ensures ∙ not-false c.before.before.serials-free.result c.before.if2.false) c.serials-free2.ensures
 
 pub film-apart-spec : {M : Type 1} → statement M
 film-apart-spec =

@@ -1,7 +1,7 @@
 use Prim.Native.Nat.{◌-◌}
 use mathlib.Core.Path.{◌≡◌, refl, sym, ◌∙◌}
 use lib.ListN.{drop}
-use borrow.Author.Tests.{not_true, not_false}
+use borrow.Author.Tests.{not-true, not-false}
 use Rattle.distinct.specs.Films.{films_in}
 use Rattle.distinct.specs.Apart.{serials_apart}
 use Rattle.distinct.proofs.Films.{serials_apart_lem}
@@ -26,7 +26,7 @@ returns c =
     let place : tie.After-film-place invariant-loop decreases-loop = search in
     let a = start.args in
     let o = turn.before.loop in
-    sym (o.inv ∙ step_not serials_apart_lem a.b.now a.n o.i turn.loop-test.taken start.pre.1 _ place.film-place.ensures.0 (sym c.before.film-apart.ensures ∙ not_true c.before.film-apart.result c.if1.true))
+    sym (o.inv ∙ step_not serials_apart_lem a.b.now a.n o.i turn.loop-test.taken start.pre.1 _ place.film-place.ensures.0 (sym c.before.film-apart.ensures ∙ not-true c.before.film-apart.result c.if1.true))
 
 loop-again : tie.Need-loop-preserved invariant-loop decreases-loop
 loop-again c =
@@ -35,7 +35,7 @@ loop-again c =
     let place : tie.After-film-place invariant-loop decreases-loop = search in
     let a = start.args in
     let o = turn.before.loop in
-    o.inv ∙ step_on serials_apart_lem a.b.now a.n o.i turn.loop-test.taken start.pre.1 _ place.film-place.ensures.0 (sym c.before.film-apart.ensures ∙ not_false c.before.film-apart.result c.if1.false)
+    o.inv ∙ step_on serials_apart_lem a.b.now a.n o.i turn.loop-test.taken start.pre.1 _ place.film-place.ensures.0 (sym c.before.film-apart.ensures ∙ not-false c.before.film-apart.result c.if1.false)
 
 returns_2 : tie.Need-returns-2 invariant-loop decreases-loop
 returns_2 c =

@@ -2,7 +2,7 @@ use Prim.Native.Nat.{ℕ, ◌+◌, ◌<◌}
 use mathlib.Core.Path.{◌≡◌, sym, subst, ◌∙◌}
 use mathlib.Core.Bool.{Bool, true, false}
 use mathlib.Core.List.{List, ◌∷◌}
-use borrow.Author.Tests.{not_true, not_false}
+use borrow.Author.Tests.{not-true, not-false}
 use Rattle.choice.specs.Pick.{both}
 use Rattle.rules.specs.Layout.{numbers_size, session_format}
 use Rattle.rules.specs.Lists.{apart}
@@ -32,7 +32,7 @@ returns_2 c =
     let start : tie.Start = search in
     let b = start.args.b.now in
     let own = own_told b (numbers_size + 1) _ _ c.before.before.before.made_at.ensures.0 c.before.before.own-count.ensures.0 in
-    paired b start.args.n _ false own (sym (not_true c.before.serials-free.result c.if2.true) ∙ c.before.serials-free.ensures)
+    paired b start.args.n _ false own (sym (not-true c.before.serials-free.result c.if2.true) ∙ c.before.serials-free.ensures)
 
 returns-3 : tie.Need-returns-3
 unfolding session_format
@@ -41,7 +41,7 @@ returns-3 c =
     let b = start.args.b.now in
     let s = c.before.before.serials-free in
     let own = own_told b (numbers_size + 1) _ _ c.before.before.before.before.made_at.ensures.0 c.before.before.before.own-count.ensures.0 in
-    c.films-apart.ensures ∙ paired b start.args.n _ true own (sym (not_false s.result c.before.if2.false) ∙ s.ensures)
+    c.films-apart.ensures ∙ paired b start.args.n _ true own (sym (not-false s.result c.before.if2.false) ∙ s.ensures)
 
 pub serials-apart-spec : {M : Type 1} → statement M
 serials-apart-spec =

@@ -1,7 +1,7 @@
 use Prim.Native.Nat.{◌-◌}
 use mathlib.Core.Path.{◌≡◌, refl, sym, ◌∙◌}
 use lib.ListN.{drop}
-use borrow.Author.Tests.{not_true, not_false}
+use borrow.Author.Tests.{not-true, not-false}
 use Rattle.distinct.specs.Films.{films_in}
 use Rattle.distinct.specs.Apart.{serials, serials_free}
 use Rattle.distinct.proofs.Films.{serials_free_lem}
@@ -26,7 +26,7 @@ returns c =
     let place : tie.After-film-place invariant-loop decreases-loop = search in
     let a = start.args in
     let o = turn.before.loop in
-    sym (o.inv ∙ step_not (serials_free_lem (serials a.first a.count)) a.b.now a.n o.i turn.loop-test.taken start.pre.1 _ place.film-place.ensures.0 (sym c.before.free-of-film.ensures ∙ not_true c.before.free-of-film.result c.if1.true))
+    sym (o.inv ∙ step_not (serials_free_lem (serials a.first a.count)) a.b.now a.n o.i turn.loop-test.taken start.pre.1 _ place.film-place.ensures.0 (sym c.before.free-of-film.ensures ∙ not-true c.before.free-of-film.result c.if1.true))
 
 loop-again : tie.Need-loop-preserved invariant-loop decreases-loop
 loop-again c =
@@ -35,7 +35,7 @@ loop-again c =
     let place : tie.After-film-place invariant-loop decreases-loop = search in
     let a = start.args in
     let o = turn.before.loop in
-    o.inv ∙ step_on (serials_free_lem (serials a.first a.count)) a.b.now a.n o.i turn.loop-test.taken start.pre.1 _ place.film-place.ensures.0 (sym c.before.free-of-film.ensures ∙ not_false c.before.free-of-film.result c.if1.false)
+    o.inv ∙ step_on (serials_free_lem (serials a.first a.count)) a.b.now a.n o.i turn.loop-test.taken start.pre.1 _ place.film-place.ensures.0 (sym c.before.free-of-film.ensures ∙ not-false c.before.free-of-film.result c.if1.false)
 
 returns_2 : tie.Need-returns-2 invariant-loop decreases-loop
 returns_2 c =

@@ -1,7 +1,7 @@
 use Prim.Native.Nat.{ℕ, ◌+◌, ◌-◌}
 use mathlib.Core.Path.{◌≡◌, refl, sym, ap, ◌∙◌}
 use lib.ListN.{drop}
-use borrow.Author.Tests.{not_true, not_false}
+use borrow.Author.Tests.{not-true, not-false}
 use mathlib.Core.List.{List}
 use Rattle.rules.specs.Layout.{name_format, film_format}
 use Rattle.rules.specs.Sound.{sent_text}
@@ -36,7 +36,7 @@ returns c =
     let o = turn.before.loop in
     let sent : tie.After-sent-text invariant-loop decreases-loop = search in
     let text = film_text_lem a.b.now _ sent.sent-text.ensures in
-    sym (o.inv ∙ step_not texts_apart_lem a.b.now a.n o.i turn.loop-test.taken start.pre.1 _ place.film-place.ensures.0 (ap (λ (t : List ℕ). text_free t (drop (o.i + 1) (films_in a.b.now a.n))) (sym text) ∙ sym c.before.text-free.ensures ∙ not_true c.before.text-free.result c.if1.true))
+    sym (o.inv ∙ step_not texts_apart_lem a.b.now a.n o.i turn.loop-test.taken start.pre.1 _ place.film-place.ensures.0 (ap (λ (t : List ℕ). text_free t (drop (o.i + 1) (films_in a.b.now a.n))) (sym text) ∙ sym c.before.text-free.ensures ∙ not-true c.before.text-free.result c.if1.true))
 
 loop-again : tie.Need-loop-preserved invariant-loop decreases-loop
 loop-again c =
@@ -47,7 +47,7 @@ loop-again c =
     let o = turn.before.loop in
     let sent : tie.After-sent-text invariant-loop decreases-loop = search in
     let text = film_text_lem a.b.now _ sent.sent-text.ensures in
-    o.inv ∙ step_on texts_apart_lem a.b.now a.n o.i turn.loop-test.taken start.pre.1 _ place.film-place.ensures.0 (ap (λ (t : List ℕ). text_free t (drop (o.i + 1) (films_in a.b.now a.n))) (sym text) ∙ sym c.before.text-free.ensures ∙ not_false c.before.text-free.result c.if1.false)
+    o.inv ∙ step_on texts_apart_lem a.b.now a.n o.i turn.loop-test.taken start.pre.1 _ place.film-place.ensures.0 (ap (λ (t : List ℕ). text_free t (drop (o.i + 1) (films_in a.b.now a.n))) (sym text) ∙ sym c.before.text-free.ensures ∙ not-false c.before.text-free.result c.if1.false)
 
 returns_2 : tie.Need-returns-2 invariant-loop decreases-loop
 returns_2 c =

@@ -1,7 +1,7 @@
 use Prim.Native.Nat.{ℕ}
 use mathlib.Core.Path.{sym, ap, ◌∙◌}
 use mathlib.Core.List.{List, [], ◌∷◌}
-use borrow.Author.Tests.{not_true, not_false}
+use borrow.Author.Tests.{not-true, not-false}
 use Rattle.rules.specs.Layout.{session_format}
 use Rattle.rules.specs.Sound.{uids_apart}
 use Rattle.records.specs.Places.{session_in}
@@ -18,7 +18,7 @@ returns c =
     let held : tie.After-films-held = search in
     let b = start.args.b.now in
     let n = held.films-held.result in
-    sym (serials_not (session_in b) (films_in b n) (sym c.before.serials-apart.ensures ∙ not_true c.before.serials-apart.result c.if1.true))
+    sym (serials_not (session_in b) (films_in b n) (sym c.before.serials-apart.ensures ∙ not-true c.before.serials-apart.result c.if1.true))
     ∙ ap (uids_apart (session_in b ∷ [])) held.films-held.ensures.1
 
 returns_2 : tie.Need-returns-2
@@ -31,7 +31,7 @@ returns_2 c =
     let b = start.args.b.now in
     let n = held.films-held.result in
     let text = ap (λ (t : List ℕ). text_free t (films_in b n)) sent.sent-text.ensures in
-    sym (text_not (session_in b) (films_in b n) (sym past.before.serials-apart.ensures ∙ not_false past.before.serials-apart.result past.if1.left) (sym text ∙ sym c.before.text-free.ensures ∙ not_true c.before.text-free.result c.if2.true))
+    sym (text_not (session_in b) (films_in b n) (sym past.before.serials-apart.ensures ∙ not-false past.before.serials-apart.result past.if1.left) (sym text ∙ sym c.before.text-free.ensures ∙ not-true c.before.text-free.result c.if2.true))
     ∙ ap (uids_apart (session_in b ∷ [])) held.films-held.ensures.1
 
 returns-3 : tie.Need-returns-3
@@ -46,7 +46,7 @@ returns-3 c =
     let n = held.films-held.result in
     let text = ap (λ (t : List ℕ). text_free t (films_in b n)) sent.sent-text.ensures in
     c.texts-apart.ensures
-    ∙ sym (texts_left (session_in b) (films_in b n) (sym past.before.serials-apart.ensures ∙ not_false past.before.serials-apart.result past.if1.left) (sym text ∙ sym free.before.text-free.ensures ∙ not_false free.before.text-free.result free.if2.left))
+    ∙ sym (texts_left (session_in b) (films_in b n) (sym past.before.serials-apart.ensures ∙ not-false past.before.serials-apart.result past.if1.left) (sym text ∙ sym free.before.text-free.ensures ∙ not-false free.before.text-free.result free.if2.left))
     ∙ ap (uids_apart (session_in b ∷ [])) held.films-held.ensures.1
 
 pub uids-apart-spec : {M : Type 1} → statement M

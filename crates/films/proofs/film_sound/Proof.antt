@@ -1,6 +1,6 @@
 use mathlib.Core.Path.{refl, sym, ◌∙◌}
 use native.Mathlib.Omega.{arith}
-use borrow.Author.Tests.{not_false, le-leb, lt-leb}
+use borrow.Author.Tests.{not-false, le-leb, lt-leb}
 use Rattle.rules.specs.Layout.{serial_format, name_format, film_format}
 use Rattle.names.proofs.Tests.{first_passes, first_fails, last_told, told_is, tests}
 use Rattle.films.proofs.Lines.{boxes_most}
@@ -15,7 +15,7 @@ boxes-fit-requires c κs =
     let a : tie.Start = search in
     let layout : tie.Else2 = search in
     let x = layout.before.layout-sound in
-    let most = boxes_most (film_format.read a.args.b.now a.args.p).layout (sym x.ensures ∙ not_false x.result layout.if2.left) in
+    let most = boxes_most (film_format.read a.args.b.now a.args.p).layout (sym x.ensures ∙ not-false x.result layout.if2.left) in
     (omega arith, omega (arith, c.before.box-count.ensures.0), a.pre.3)
 
 returns : tie.Need-returns

@@ -1,5 +1,5 @@
 use mathlib.Core.Path.{sym, ◌∙◌}
-use borrow.Author.Tests.{not_true, not_false}
+use borrow.Author.Tests.{not-true, not-false}
 use Rattle.rules.specs.Text.{chars}
 use Rattle.layouts.proofs.Laws.{standard_short, standard_other, standard_columns, standard_comma, standard_rows}
 use borrow.Author.Rules.{rules}
@@ -14,7 +14,7 @@ unfolding chars
 returns_2 c =
     let twelve : tie.Else1 = search in
     let word = c.before.same_bytes in
-    standard_other _ twelve.if1.left (sym word.ensures ∙ not_true word.result c.if2.true)
+    standard_other _ twelve.if1.left (sym word.ensures ∙ not-true word.result c.if2.true)
 
 returns-3 : tie.Need-returns-3
 unfolding chars
@@ -23,7 +23,7 @@ returns-3 c =
     let twelve : tie.Else1 = search in
     let word = begun.before.same_bytes in
     let columns = c.before.one-to-six in
-    standard_columns _ twelve.if1.left (sym word.ensures ∙ not_false word.result begun.if2.left) (sym columns.ensures ∙ not_true columns.result c.if3.true)
+    standard_columns _ twelve.if1.left (sym word.ensures ∙ not-false word.result begun.if2.left) (sym columns.ensures ∙ not-true columns.result c.if3.true)
 
 returns-4 : tie.Need-returns-4
 unfolding chars
@@ -33,7 +33,7 @@ returns-4 c =
     let twelve : tie.Else1 = search in
     let word = begun.before.same_bytes in
     let columns = counted.before.one-to-six in
-    standard_comma _ twelve.if1.left (sym word.ensures ∙ not_false word.result begun.if2.left) (sym columns.ensures ∙ not_false columns.result counted.if3.left) c.if4.true
+    standard_comma _ twelve.if1.left (sym word.ensures ∙ not-false word.result begun.if2.left) (sym columns.ensures ∙ not-false columns.result counted.if3.left) c.if4.true
 
 returns-5 : tie.Need-returns-5
 unfolding chars
@@ -45,7 +45,7 @@ returns-5 c =
     let word = begun.before.same_bytes in
     let columns = counted.before.one-to-six in
     c.one-to-six2.ensures
-    ∙ standard_rows _ twelve.if1.left (sym word.ensures ∙ not_false word.result begun.if2.left) (sym columns.ensures ∙ not_false columns.result counted.if3.left) comma.if4.left
+    ∙ standard_rows _ twelve.if1.left (sym word.ensures ∙ not-false word.result begun.if2.left) (sym columns.ensures ∙ not-false columns.result counted.if3.left) comma.if4.left
 
 pub is-standard-spec : {M : Type 1} → statement M
 is-standard-spec =

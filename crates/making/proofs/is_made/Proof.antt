@@ -1,6 +1,6 @@
 use mathlib.Core.Path.{sym, ◌∙◌}
 use native.Mathlib.Numerals.{unary_clauses}
-use borrow.Author.Tests.{not_true, not_false, eq-eqb, ne_eqb}
+use borrow.Author.Tests.{not-true, not-false, eq-eqb, ne_eqb}
 use Rattle.choice.proofs.Picks.{both_fails, both_only}
 use Rattle.octets.proofs.Parts.{rest}
 use Rattle.making.proofs.Compared.{no_dot, made_parts}
@@ -15,7 +15,7 @@ returns_2 : tie.Need-returns-2
 returns_2 c =
     let a = c.before.before.before.before.before.before.args in
     let digits = rw (rest a.uid.now _) at c.before.is-decimal.ensures in
-    sym (made_parts _ _ _ c.before.before.before.if1.false ∙ simp (← digits, not_true c.before.is-decimal.result c.if2.true, both_fails))
+    sym (made_parts _ _ _ c.before.before.before.if1.false ∙ simp (← digits, not-true c.before.is-decimal.result c.if2.true, both_fails))
 
 returns-3 : tie.Need-returns-3
 returns-3 c = sym (made_parts _ _ _ c.before.before.before.before.before.if1.false ∙ simp (ne_eqb _ _ c.if3.true, both_fails))
@@ -26,7 +26,7 @@ returns-4 c =
     let told : tie.After-is-decimal = search in
     let digits = rw (rest start.args.uid.now _) at told.is-decimal.ensures in
     let root = simp unary_clauses at c.same_bytes.ensures in
-    sym (made_parts _ _ _ told.before.before.if1.left ∙ simp (← digits, not_false told.is-decimal.result c.before.before.before.before.if2.false, eq-eqb _ _ c.before.before.if3.false, both_only, ← root))
+    sym (made_parts _ _ _ told.before.before.if1.left ∙ simp (← digits, not-false told.is-decimal.result c.before.before.before.before.if2.false, eq-eqb _ _ c.before.before.if3.false, both_only, ← root))
 
 pub is-made-spec : {M : Type 1} → statement M
 is-made-spec =

@@ -1,5 +1,5 @@
 use native.Mathlib.Omega.{arith}
-use borrow.Author.Tests.{not_true, not_false}
+use borrow.Author.Tests.{not-true, not-false}
 use Rattle.choice.proofs.Picks.{both_fails}
 use Rattle.names.proofs.InPlace.{numbers_none, numbers_long, numbers_told}
 use borrow.Author.Rules.{rules}
@@ -21,7 +21,7 @@ returns-3 c =
     let fits : tie.Else2 = search in
     let uid : tie.After-is-uid = search in
     numbers_told start.args.b.now start.pre _ fits.before.if1.left fits.if2.left
-    (simp (← uid.before.root_in.ensures, ← uid.is-uid.ensures, not_true uid.is-uid.result c.if3.true))
+    (simp (← uid.before.root_in.ensures, ← uid.is-uid.ensures, not-true uid.is-uid.result c.if3.true))
 
 returns-4 : tie.Need-returns-4
 returns-4 c =
@@ -29,7 +29,7 @@ returns-4 c =
     let fits : tie.Else2 = search in
     let rest : tie.After-zeros-in = search in
     numbers_told start.args.b.now start.pre _ fits.before.if1.left fits.if2.left
-    (simp (← rest.zeros-in.ensures, not_true rest.zeros-in.result c.if4.true, both_fails))
+    (simp (← rest.zeros-in.ensures, not-true rest.zeros-in.result c.if4.true, both_fails))
 
 returns-5 : tie.Need-returns-5
 returns-5 c =
@@ -37,7 +37,7 @@ returns-5 c =
     let fits : tie.Else2 = search in
     let serial : tie.After-next-sound = search in
     numbers_told start.args.b.now start.pre _ fits.before.if1.left fits.if2.left
-    (simp (← serial.next-sound.ensures, not_true serial.next-sound.result c.if5.true, both_fails))
+    (simp (← serial.next-sound.ensures, not-true serial.next-sound.result c.if5.true, both_fails))
 
 returns-6 : tie.Need-returns-6
 returns-6 c =
@@ -47,7 +47,7 @@ returns-6 c =
     let rest : tie.Else4 = search in
     let serial : tie.Else5 = search in
     numbers_told start.args.b.now start.pre _ fits.before.if1.left fits.if2.left
-    (simp (← uid.before.before.root_in.ensures, ← uid.before.is-uid.ensures, not_false uid.before.is-uid.result uid.if3.left, ← rest.before.zeros-in.ensures, not_false rest.before.zeros-in.result rest.if4.left, ← serial.before.next-sound.ensures, not_false serial.before.next-sound.result serial.if5.left, ← c.next-sound2.ensures))
+    (simp (← uid.before.before.root_in.ensures, ← uid.before.is-uid.ensures, not-false uid.before.is-uid.result uid.if3.left, ← rest.before.zeros-in.ensures, not-false rest.before.zeros-in.result rest.if4.left, ← serial.before.next-sound.ensures, not-false serial.before.next-sound.result serial.if5.left, ← c.next-sound2.ensures))
 
 pub numbers-sound-spec : {M : Type 1} → statement M
 numbers-sound-spec =

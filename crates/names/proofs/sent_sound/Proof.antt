@@ -1,6 +1,6 @@
 use Prim.Native.Nat.{◌+◌}
 use native.Mathlib.Omega.{arith}
-use borrow.Author.Tests.{not_true, not_false}
+use borrow.Author.Tests.{not-true, not-false}
 use Rattle.choice.proofs.Picks.{both_fails}
 use Rattle.records.specs.Places.{numbers_in}
 use Rattle.names.proofs.InPlace.{sent_none, sent_long, sent_told}
@@ -25,7 +25,7 @@ returns-3 c =
     let fits : tie.Else2 = search in
     let uid : tie.After-is-uid = search in
     sent_told (numbers_in start.args.b.now) start.args.b.now start.args.p start.pre.1 _ fits.before.if1.left fits.if2.left
-    (simp (← uid.is-uid.ensures, not_true uid.is-uid.result c.if3.true))
+    (simp (← uid.is-uid.ensures, not-true uid.is-uid.result c.if3.true))
 
 returns-4 : tie.Need-returns-4
 returns-4 c =
@@ -42,7 +42,7 @@ returns-5 c =
     let uid : tie.Else3 = search in
     let begins : tie.Else4 = search in
     sent_told (numbers_in start.args.b.now) start.args.b.now start.args.p start.pre.1 _ fits.before.if1.left fits.if2.left
-    (simp (← uid.before.is-uid.ensures, not_false uid.before.is-uid.result uid.if3.left, ← begins.before.before.root_in.ensures, ← begins.before.begins-with.ensures, begins.if4.left, ← c.zeros-in.ensures))
+    (simp (← uid.before.is-uid.ensures, not-false uid.before.is-uid.result uid.if3.left, ← begins.before.before.root_in.ensures, ← begins.before.begins-with.ensures, begins.if4.left, ← c.zeros-in.ensures))
 
 pub sent-sound-spec : {M : Type 1} → statement M
 sent-sound-spec =

@@ -1,5 +1,5 @@
 use native.Mathlib.Omega.{arith}
-use borrow.Author.Tests.{not_true, not_false}
+use borrow.Author.Tests.{not-true, not-false}
 use Rattle.choice.proofs.Picks.{both_fails}
 use Rattle.sessions.proofs.InPlace.{label_long, label_told}
 use borrow.Author.Rules.{rules}
@@ -18,7 +18,7 @@ returns_2 c =
     let fits : tie.Else1 = search in
     let allowed : tie.After-label-allowed = search in
     label_told start.args.b.now start.args.at start.pre _ fits.if1.left
-    (simp (← allowed.label-allowed.ensures, not_true allowed.label-allowed.result c.if2.true))
+    (simp (← allowed.label-allowed.ensures, not-true allowed.label-allowed.result c.if2.true))
 
 returns-3 : tie.Need-returns-3
 returns-3 c =
@@ -26,7 +26,7 @@ returns-3 c =
     let fits : tie.Else1 = search in
     let trimmed : tie.After-is-trimmed = search in
     label_told start.args.b.now start.args.at start.pre _ fits.if1.left
-    (simp (← trimmed.is-trimmed.ensures, not_true trimmed.is-trimmed.result c.if3.true, both_fails))
+    (simp (← trimmed.is-trimmed.ensures, not-true trimmed.is-trimmed.result c.if3.true, both_fails))
 
 returns-4 : tie.Need-returns-4
 returns-4 c =
@@ -35,7 +35,7 @@ returns-4 c =
     let allowed : tie.Else2 = search in
     let trimmed : tie.Else3 = search in
     label_told start.args.b.now start.args.at start.pre _ fits.if1.left
-    (simp (← allowed.before.label-allowed.ensures, not_false allowed.before.label-allowed.result allowed.if2.left, ← trimmed.before.is-trimmed.ensures, not_false trimmed.before.is-trimmed.result trimmed.if3.left, ← c.zeros-in.ensures))
+    (simp (← allowed.before.label-allowed.ensures, not-false allowed.before.label-allowed.result allowed.if2.left, ← trimmed.before.is-trimmed.ensures, not-false trimmed.before.is-trimmed.result trimmed.if3.left, ← c.zeros-in.ensures))
 
 pub label-sound-spec : {M : Type 1} → statement M
 label-sound-spec =

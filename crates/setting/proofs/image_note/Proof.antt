@@ -1,5 +1,5 @@
 use mathlib.Core.Path.{sym, ap, subst, ◌∙◌}
-use borrow.Author.Tests.{not_true, not_false}
+use borrow.Author.Tests.{not-true, not-false}
 use borrow.Author.Rules.{rules}
 use Rattle.rules.specs.Attributes.{listing_of, image_in, pixels}
 use Rattle.boxes.specs.Images.{PixelsFit}
@@ -12,7 +12,7 @@ returns c =
     let o : tie.Start = search in
     let a = o.args in
     let fills = c.before.is-fill in
-    rw (fill_by a.d.now a.syntax a.image fills.result o.pre.1.0 fills.ensures ∙ not_true fills.result c.if1.true)
+    rw (fill_by a.d.now a.syntax a.image fills.result o.pre.1.0 fills.ensures ∙ not-true fills.result c.if1.true)
 
 pixels-requires : tie.Need-pixels-requires
 pixels-requires c κs =
@@ -31,7 +31,7 @@ returns_2 c =
     let e = o.pre.1.0 in
     let l = listing_of a.d.now a.syntax in
     let fills = test.is-fill in
-    note_fills a.number l (image_in l) found.pixels.result (fill_by a.d.now a.syntax a.image fills.result e fills.ensures ∙ not_false fills.result filled.if1.left) (found.pixels.ensures.0 ∙ ap (pixels l) e)
+    note_fills a.number l (image_in l) found.pixels.result (fill_by a.d.now a.syntax a.image fills.result e fills.ensures ∙ not-false fills.result filled.if1.left) (found.pixels.ensures.0 ∙ ap (pixels l) e)
 
 pub image-note-spec : {M : Type 1} → statement M
 image-note-spec =

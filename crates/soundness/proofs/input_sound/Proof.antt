@@ -1,5 +1,5 @@
 use native.Mathlib.Omega.{arith}
-use borrow.Author.Tests.{le-leb, lt-leb, not_true, not_false}
+use borrow.Author.Tests.{le-leb, lt-leb, not-true, not-false}
 use Rattle.rules.specs.Layout.{opened_format, input_format}
 use Rattle.rules.specs.Lists.{every}
 use Rattle.rules.specs.Sound.{input_sound}
@@ -38,7 +38,7 @@ returns-3 c =
     let clear : tie.After-zeros-in = search in
     input_told start.args.b.now start.pre fits.before.u16-at.ensures.0 fits.if2.left
     (told_most _ _ _ last.last-phase.ensures phase.if1.left)
-    (simp (← clear.zeros-in.ensures, not_true clear.zeros-in.result c.if3.true))
+    (simp (← clear.zeros-in.ensures, not-true clear.zeros-in.result c.if3.true))
 
 returns-4 : tie.Need-returns-4
 unfolding opened_format input_format
@@ -50,7 +50,7 @@ returns-4 c =
     let clear : tie.Else3 = search in
     input_told start.args.b.now start.pre fits.before.u16-at.ensures.0 fits.if2.left
     (told_most _ _ _ last.last-phase.ensures phase.if1.left)
-    (simp (← clear.before.zeros-in.ensures, not_false clear.before.zeros-in.result clear.if3.left, ← c.phase-sound.ensures))
+    (simp (← clear.before.zeros-in.ensures, not-false clear.before.zeros-in.result clear.if3.left, ← c.phase-sound.ensures))
 
 pub input-sound-spec : {M : Type 1} → statement M
 input-sound-spec =

@@ -1,6 +1,6 @@
 use mathlib.Core.Path.{sym}
 use native.Mathlib.Numerals.{unary_clauses}
-use borrow.Author.Tests.{not_true, not_false}
+use borrow.Author.Tests.{not-true, not-false}
 use Rattle.uids.specs.Uids.{begins_with}
 use Rattle.uids.proofs.Turns.{too_short}
 use borrow.Author.Rules.{rules}
@@ -12,11 +12,11 @@ returns c = sym (too_short _ _ c.if1.true)
 
 returns_2 : tie.Need-returns-2
 unfolding begins_with
-returns_2 c = let e = simp unary_clauses at c.before.same_bytes.ensures in simp (← e, not_true c.before.same_bytes.result c.if2.true)
+returns_2 c = let e = simp unary_clauses at c.before.same_bytes.ensures in simp (← e, not-true c.before.same_bytes.result c.if2.true)
 
 returns-3 : tie.Need-returns-3
 unfolding begins_with
-returns-3 c = let e = simp unary_clauses at c.before.before.same_bytes.ensures in simp (← e, not_false c.before.before.same_bytes.result c.before.if2.false)
+returns-3 c = let e = simp unary_clauses at c.before.before.same_bytes.ensures in simp (← e, not-false c.before.before.same_bytes.result c.before.if2.false)
 
 pub begins-with-spec : {M : Type 1} → statement M
 begins-with-spec =

@@ -4,7 +4,7 @@ use mathlib.Core.Logic.{⊎_elim}
 use mathlib.Core.List.{[]}
 use native.Mathlib.Omega.{arith}
 use lib.ListN.{length, drop}
-use borrow.Author.Tests.{le-leb, lt-leb, not_true, not_false}
+use borrow.Author.Tests.{le-leb, lt-leb, not-true, not-false}
 use Rattle.octets.specs.Octets.{part}
 use Rattle.uids.specs.Uids.{component, components, is_uid}
 use Rattle.uids.proofs.Turns.{components_dot, components_on, components_end}
@@ -31,13 +31,13 @@ returns_2 c =
     let head : tie.At-loop invariant-loop decreases-loop = search in
     let o = head.loop in
     let f = c.before.is-component in
-    sym (rw (le-leb _ _ head.before.if1.left) (o.inv.2 ∙ components_dot _ o.from o.i c.before.before.before.before.before.loop-test.true c.before.before.before.if2.true ∙ rw (← f.ensures, not_true f.result c.if3.true)))
+    sym (rw (le-leb _ _ head.before.if1.left) (o.inv.2 ∙ components_dot _ o.from o.i c.before.before.before.before.before.loop-test.true c.before.before.before.if2.true ∙ rw (← f.ensures, not-true f.result c.if3.true)))
 
 loop-again : tie.Need-loop-preserved invariant-loop decreases-loop
 loop-again c = let o = c.before.before.before.loop in
     let h = c.before.before.loop-test.true in
     ⊎_elim
-    (λ w. (search rules, search rules, o.invariant.2 ∙ components_dot _ o.from o.i h w.0.taken ∙ rw (← w.2.ensures, not_false w.2.result w.3.left, w.4)))
+    (λ w. (search rules, search rules, o.invariant.2 ∙ components_dot _ o.from o.i h w.0.taken ∙ rw (← w.2.ensures, not-false w.2.result w.3.left, w.4)))
     (λ w. (search rules, search rules, o.invariant.2 ∙ components_on _ o.from o.i o.invariant.0 h w.0.left ∙ rw w.1))
     c.if2.branch
 
