@@ -186,7 +186,7 @@ fn destination_or(d: &[u8], found: Found, kept: u8) -> u8
 }
 
 // A text in front of zeros, and how many bytes it has.
-#[derive(Drop)]
+#[derive(Clone, Copy)]
 struct Label {
     used: u8,
     bytes: [u8; 64],

@@ -54,7 +54,7 @@ const REPRESENTATION: usize = 7;
 const PIXEL_DATA: usize = 8;
 
 // What a data set holds for a box.
-#[derive(Drop)]
+#[derive(Clone, Copy)]
 pub struct BoxFound {
     pub position: Found,
     pub polarity: Found,
@@ -131,7 +131,7 @@ pub fn item_gathered(d: &[u8], syntax: Syntax, image: Image) -> [Found; 9]
 // Numbers.
 
 // A number of two bytes as it was sent: how its attribute stands, how many bytes it has, and the number.
-#[derive(Drop)]
+#[derive(Clone, Copy)]
 struct Sent {
     kind: u8,
     size: usize,
@@ -189,7 +189,7 @@ fn depth_severity(d: &[u8], found: Found, allowed: bool) -> u8
 }
 
 // The three numbers of a depth.
-#[derive(Drop)]
+#[derive(Clone, Copy)]
 struct Depth {
     allocated: u16,
     stored: u16,

@@ -20,7 +20,7 @@ use rules::{Contents, Film, ImageBox, Name, Note, Session};
 // What a request does to the records: nothing; a session or a film is created, with so many serials used; a session, a film or a box is
 // set, a box by its film's place and its own, with whether it takes the next picture number; films are queued; a film or the session
 // with all its films is deleted.
-#[derive(Drop)]
+#[derive(Clone, Copy)]
 pub enum Effect {
     Kept,
     SessionCreated(u64),
@@ -41,7 +41,7 @@ pub enum Effect {
 
 // What a request changes: its effect, with the session or the film that it creates or sets, which stand beside it since an enum holds
 // no arrays; what it does not touch is blank.
-#[derive(Drop)]
+#[derive(Clone, Copy)]
 pub struct Change {
     pub effect: Effect,
     pub session: Session,
@@ -49,7 +49,7 @@ pub struct Change {
 }
 
 // What a request comes to: as the book's verdict, with the change in place of the core afterwards.
-#[derive(Drop)]
+#[derive(Clone, Copy)]
 pub struct Decision {
     pub done: bool,
     pub status: u16,

@@ -3,5 +3,5 @@
 
 // A key, and what the table has for it. In eight bytes, for of a constant table of such rows the compiler makes
 // tests alone; of wider ones it lays the table out in every call.
-#[derive(Drop)]
+#[derive(Clone, Copy)]
 pub struct Row(pub u32, pub u32);

@@ -15,7 +15,7 @@ use rules::Command;
 use strike::{Came, Reading};
 
 // "One message is collected through idle, in command, skipping command, in data and skipping data."
-#[derive(Drop)]
+#[derive(Clone, Copy)]
 pub enum Collecting {
     Idle,
     InCommand,
@@ -25,7 +25,7 @@ pub enum Collecting {
 }
 
 // What a fragment comes to; a request is asked for with what came as its data set.
-#[derive(Drop)]
+#[derive(Clone, Copy)]
 pub enum Answer {
     Ignored,
     Wait,

@@ -41,7 +41,7 @@ const OTHERS: usize = 9;
 const ITEM_END: usize = 0xFFFE_E00D;
 
 // Whether a command is whole, read to its end with all elements in group 0000, and then its places.
-#[derive(Drop)]
+#[derive(Clone, Copy)]
 struct Places {
     whole: bool,
     parts: [Part; 10],
@@ -366,7 +366,7 @@ fn request(c: &[u8], places: [Part; 10]) -> Command
 }
 
 // What a whole command set says, and where it can be read whether a data set comes with it.
-#[derive(Drop)]
+#[derive(Clone, Copy)]
 pub struct Saying {
     pub command: Command,
     pub with_data: bool,

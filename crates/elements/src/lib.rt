@@ -16,7 +16,7 @@ pub const SEQUENCE_END: usize = 0xFFFE_E0DD;
 pub const NESTED: usize = 4;
 
 // Where the reading stopped: the number of the refusal, the first byte of the header at fault, and how many sequences that lies in.
-#[derive(Drop)]
+#[derive(Clone, Copy)]
 pub struct Stop {
     pub number: usize,
     pub place: usize,
@@ -24,21 +24,21 @@ pub struct Stop {
 }
 
 // The place after what was read, or where the reading stopped.
-#[derive(Drop)]
+#[derive(Clone, Copy)]
 pub enum Read {
     Past(usize),
     Refused(Stop),
 }
 
 // What was read, and how many headers were passed: elements, items and delimiters that were read whole.
-#[derive(Drop)]
+#[derive(Clone, Copy)]
 pub struct Reading {
     pub read: Read,
     pub passed: usize,
 }
 
 // What a list holds under a tag: nothing, a value, or a sequence.
-#[derive(Drop)]
+#[derive(Clone, Copy)]
 pub enum Found {
     Missing,
     Value(Part),
@@ -46,7 +46,7 @@ pub enum Found {
 }
 
 // The items of a sequence: none, one and what its list holds, or how many.
-#[derive(Drop)]
+#[derive(Clone, Copy)]
 pub enum Items {
     Empty,
     One(Inside),

@@ -12,7 +12,7 @@ use headers::{Close, Head, Scope, Syntax, closing, item_head, tag_at};
 use syntaxes::element_head;
 
 // What an element gives to the one who looks for its tag, and how it was read. A value is read with its header.
-#[derive(Drop)]
+#[derive(Clone, Copy)]
 struct Looked {
     found: Found,
     read: Read,

@@ -8,21 +8,21 @@ use octets::{u16_at, u32_at};
 use tags::SQ;
 
 // The transfer syntaxes: implicit or explicit VR, each little endian.
-#[derive(Drop)]
+#[derive(Clone, Copy)]
 pub enum Syntax {
     Implicit,
     Explicit,
 }
 
 // The bytes of a value.
-#[derive(Drop)]
+#[derive(Clone, Copy)]
 pub struct Part {
     pub from: usize,
     pub stop: usize,
 }
 
 // What a list or a sequence holds. One of undefined length is loose: it ends at a delimiter before `stop`.
-#[derive(Drop)]
+#[derive(Clone, Copy)]
 pub struct Inside {
     pub from: usize,
     pub stop: usize,
@@ -30,7 +30,7 @@ pub struct Inside {
 }
 
 // A list or a sequence that is to be read: its syntax, how many sequences within one another it may hold, and where it stands.
-#[derive(Drop)]
+#[derive(Clone, Copy)]
 pub struct Scope {
     pub syntax: Syntax,
     pub room: usize,
@@ -38,7 +38,7 @@ pub struct Scope {
 }
 
 // What a header says: the refusal that it earns, a value, or a sequence or an item that holds more.
-#[derive(Drop)]
+#[derive(Clone, Copy)]
 pub enum Head {
     Fault(usize),
     Value(Part),
@@ -46,7 +46,7 @@ pub enum Head {
 }
 
 // Whether a list or a sequence ends here, and the place after it.
-#[derive(Drop)]
+#[derive(Clone, Copy)]
 pub enum Close {
     Here(usize),
     Not,

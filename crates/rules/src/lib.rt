@@ -22,21 +22,21 @@ pub const LINES: usize = 6;
 pub const COMMAND: usize = 1024;
 
 // "a film or box serial must not be read as a picture number"
-#[derive(Drop)]
+#[derive(Clone, Copy)]
 pub struct Serial(pub u32);
 
-#[derive(Drop)]
+#[derive(Clone, Copy)]
 pub struct Picture(pub u32);
 
 // The UID of a session or a film: a made one is kept as its serial, a sent one (serial 0) as its characters.
-#[derive(Drop)]
+#[derive(Clone, Copy)]
 pub struct Name {
     pub made: Serial,
     pub used: u8,
     pub text: [u8; TEXT],
 }
 
-#[derive(Drop)]
+#[derive(Clone, Copy)]
 pub struct Session {
     pub live: u8,
     pub name: Name,
@@ -49,7 +49,7 @@ pub struct Session {
 }
 
 // An image box; it is empty where its picture number is 0.
-#[derive(Drop)]
+#[derive(Clone, Copy)]
 pub struct ImageBox {
     pub position: u8,
     pub polarity: u8,
@@ -57,7 +57,7 @@ pub struct ImageBox {
 }
 
 // The kind of a film's format, and how many boxes each line has. Lines are rows, with COL columns.
-#[derive(Drop)]
+#[derive(Clone, Copy)]
 pub struct Layout {
     pub kind: u8,
     pub lines: u8,
@@ -65,7 +65,7 @@ pub struct Layout {
 }
 
 // A film, and the place of the session that it is of; its boxes have the serials from `first` on.
-#[derive(Drop)]
+#[derive(Clone, Copy)]
 pub struct Film {
     pub name: Name,
     pub session: u8,
@@ -77,14 +77,14 @@ pub struct Film {
 }
 
 // The films, in creation order.
-#[derive(Drop)]
+#[derive(Clone, Copy)]
 pub struct Shelf {
     pub count: u8,
     pub films: [Film; FILMS],
 }
 
 // "Each queue entry keeps thirty-six picture numbers in position order"
-#[derive(Drop)]
+#[derive(Clone, Copy)]
 pub struct Entry {
     pub pictures: [Picture; BOXES],
     pub ticket: u16,
@@ -93,14 +93,14 @@ pub struct Entry {
 }
 
 // The queue, oldest entry first.
-#[derive(Drop)]
+#[derive(Clone, Copy)]
 pub struct Queue {
     pub count: u8,
     pub entries: [Entry; ENTRIES],
 }
 
 // The root, and the next numbers; one past the last where none is left.
-#[derive(Drop)]
+#[derive(Clone, Copy)]
 pub struct Numbers {
     pub used: u8,
     pub root: [u8; ROOT],
@@ -110,7 +110,7 @@ pub struct Numbers {
 }
 
 // What open fixed: the context, the syntax and the length of the message buffer.
-#[derive(Drop)]
+#[derive(Clone, Copy)]
 pub struct Opened {
     pub live: u8,
     pub context: u8,
@@ -119,7 +119,7 @@ pub struct Opened {
 }
 
 // All that the records hold but the message half collected. A place for a session is live or blank.
-#[derive(Drop)]
+#[derive(Clone, Copy)]
 pub struct Core {
     pub numbers: Numbers,
     pub sessions: [Session; SESSIONS],
@@ -129,7 +129,7 @@ pub struct Core {
 }
 
 // The message half collected: the collecting state, the command's bytes, and how many bytes of data there are.
-#[derive(Drop)]
+#[derive(Clone, Copy)]
 pub struct Input {
     pub phase: u8,
     pub used: u16,
@@ -137,39 +137,39 @@ pub struct Input {
     pub command: [u8; COMMAND],
 }
 
-#[derive(Drop)]
+#[derive(Clone, Copy)]
 pub struct State {
     pub core: Core,
     pub input: Input,
 }
 
 // Where a command names its class, and what else its operation needs.
-#[derive(Drop)]
+#[derive(Clone, Copy)]
 pub struct Verification {
     pub class: Part,
 }
 
 // An empty place where no UID was sent.
-#[derive(Drop)]
+#[derive(Clone, Copy)]
 pub struct Creation {
     pub class: Part,
     pub sent: Part,
 }
 
-#[derive(Drop)]
+#[derive(Clone, Copy)]
 pub struct Target {
     pub class: Part,
     pub instance: Part,
 }
 
-#[derive(Drop)]
+#[derive(Clone, Copy)]
 pub struct Action {
     pub class: Part,
     pub instance: Part,
     pub kind: u16,
 }
 
-#[derive(Drop)]
+#[derive(Clone, Copy)]
 pub enum Operation {
     Echo(Verification),
     Create(Creation),
@@ -179,14 +179,14 @@ pub enum Operation {
 }
 
 // "One decoded request is a message number with one of five operations"
-#[derive(Drop)]
+#[derive(Clone, Copy)]
 pub struct Request {
     pub message: u16,
     pub operation: Operation,
 }
 
 // What a whole command set says.
-#[derive(Drop)]
+#[derive(Clone, Copy)]
 pub enum Command {
     Unreadable,
     Unknown { message: u16, field: u16 },
@@ -194,7 +194,7 @@ pub enum Command {
 }
 
 // The classes that are served, and any other.
-#[derive(Drop)]
+#[derive(Clone, Copy)]
 pub enum Class {
     Verification,
     Sessions,
@@ -204,7 +204,7 @@ pub enum Class {
 }
 
 // What a UID names: a film by its place, a box by its film's place and its own.
-#[derive(Drop)]
+#[derive(Clone, Copy)]
 pub enum Instance {
     Nobody,
     TheSession,
@@ -213,7 +213,7 @@ pub enum Instance {
 }
 
 // What Image Sequence says: nothing, no item, several, or where the list of its only item stands.
-#[derive(Drop)]
+#[derive(Clone, Copy)]
 pub enum Image {
     Keeps,
     Erases,
@@ -223,7 +223,7 @@ pub enum Image {
 
 // Rule 4.13, a note: none, how many films were queued, a picture's number with place and length of its pixels, or where the reading
 // of the data set stopped.
-#[derive(Drop)]
+#[derive(Clone, Copy)]
 pub enum Note {
     NoNote,
     FilmsQueued(u32),
@@ -236,7 +236,7 @@ pub enum Note {
 }
 
 // What the data set of an answer holds: nothing, or the boxes of a created film, by the first's serial.
-#[derive(Drop)]
+#[derive(Clone, Copy)]
 pub enum Contents {
     Nothing,
     NewBoxes { first: u32, count: u8 },
@@ -244,7 +244,7 @@ pub enum Contents {
 
 // What a request comes to: done or failed, the status, the core afterwards, the instance that the response names (none where it has no
 // characters), the note, and what the answer's data set holds.
-#[derive(Drop)]
+#[derive(Clone, Copy)]
 pub struct Verdict {
     pub done: bool,
     pub status: u16,

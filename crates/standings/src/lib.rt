@@ -8,7 +8,7 @@ use elements::Found;
 use headers::Part;
 
 // What a list holds under a tag: nothing (0), a value (1) or a sequence (2), and where the value stands.
-#[derive(Drop)]
+#[derive(Clone, Copy)]
 pub struct Attribute {
     pub kind: u8,
     pub value: Part,

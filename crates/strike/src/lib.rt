@@ -2,7 +2,7 @@
 #![tactic(auto)]
 
 // A command set that is collected: unreadable, or a request without or with a data set.
-#[derive(Drop)]
+#[derive(Clone, Copy)]
 pub enum Reading {
     NotReadable,
     Alone,
@@ -10,7 +10,7 @@ pub enum Reading {
 }
 
 // What came as the data set of a request: none, all of it, or more than the message buffer holds.
-#[derive(Drop)]
+#[derive(Clone, Copy)]
 pub enum Came {
     Absent,
     Whole,

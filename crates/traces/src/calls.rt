@@ -6,7 +6,7 @@ use crate::words::{bytes_of, next_word, number, number32, word_stop};
 use octets::same_bytes;
 
 // What a call came to. Where its reply is as kept, the message buffer lent has so many bytes from here on.
-#[derive(Drop)]
+#[derive(Clone, Copy)]
 pub enum Outcome {
     AsKept(usize),
     Other,

@@ -21,7 +21,7 @@ fn print_count(n: usize) {
 }
 
 // Where a line stops, and where the next one begins.
-#[derive(Drop)]
+#[derive(Clone, Copy)]
 struct Line {
     stop: usize,
     next: usize,
@@ -42,7 +42,7 @@ fn line_at(s: &[u8], at: usize) -> Line
 }
 
 // What a trace came to: how many replies were as kept, how many calls were not made, and whether that was all of it.
-#[derive(Drop)]
+#[derive(Clone, Copy)]
 struct Finding {
     same: usize,
     passed: usize,
