@@ -1,5 +1,6 @@
 // Acting: N-ACTION and N-DELETE decided: checks 6, 7, 10 and 11, and the effect.
 #![tactic(auto)]
+
 ghost use Rattle.std.specs.Prelude.{◌≡◌, true, [], ◌<◌, ◌≤◌, length};
 ghost use Rattle.choice.specs.Pick.{pick};
 ghost use Rattle.choice.specs.Rules.{first_broken};

@@ -1,5 +1,6 @@
 // Answering: a fragment fed: collected, and a whole command decided, answered, and its effect written.
 #![tactic(auto)]
+
 ghost use Rattle.std.specs.Prelude.{◌≡◌, ◌≤◌, length};
 ghost use Rattle.octets.specs.Octets.{laid};
 ghost use Rattle.rules.specs.Layout.{records_size};

@@ -1,5 +1,6 @@
 // Attributes: what a data set says for a session and a film, on create and on set; check 8 and the values.
 #![tactic(auto)]
+
 ghost use Rattle.std.specs.Prelude.{◌≡◌, ◌≤◌, eqb, length};
 ghost use Rattle.choice.specs.Pick.{both, not};
 ghost use Rattle.choice.specs.Rules.{first_broken};

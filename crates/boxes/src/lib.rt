@@ -1,5 +1,6 @@
 // Boxes: what a data set says for an image box on N-SET, check 8 and the values.
 #![tactic(auto)]
+
 ghost use Rattle.std.specs.Prelude.{◌≡◌, ◌+◌, ◌%◌, ◌<◌, ◌≤◌, eqb, leb, length};
 ghost use Rattle.choice.specs.Pick.{both, either};
 ghost use Rattle.choice.specs.Rules.{first_broken};

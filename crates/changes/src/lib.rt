@@ -1,5 +1,6 @@
 // Changes: what a request changes in the records, and how that is written where it stands.
 #![tactic(auto)]
+
 ghost use Rattle.std.specs.Prelude.{◌≡◌, ◌+◌, ◌<◌, ◌≤◌, [], ◌∷◌, ◌++◌, length};
 ghost use Rattle.choice.specs.Pick.{pick};
 ghost use Rattle.octets.specs.Octets.{part, laid};

@@ -1,5 +1,6 @@
 // Checks: checks 2 to 6 of a request.
 #![tactic(auto)]
+
 ghost use Rattle.std.specs.Prelude.{◌≡◌, true, ◌≤◌, length};
 ghost use Rattle.choice.specs.Rules.{first_broken};
 ghost use Rattle.rules.specs.declared.Class.TheVariants.{Sessions, Films, Boxes};

@@ -1,5 +1,6 @@
 // Collecting: a fragment's header, and what a fragment comes to, held to the book.
 #![tactic(auto)]
+
 ghost use Rattle.std.specs.Prelude.{◌≡◌, ◌+◌, ◌≤◌, ◌<◌, ◌++◌, leb, length, take};
 ghost use Rattle.strike.specs.Machine.{header_wrong, collect, laid_by, reads, stores, overflows, dataset};
 ghost use Rattle.rules.specs.Sound.{readable};

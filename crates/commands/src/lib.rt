@@ -1,5 +1,6 @@
 // Commands: what a whole command set says, held to the book.
 #![tactic(auto)]
+
 ghost use Rattle.std.specs.Prelude.{◌≡◌, true, false, ◌≤◌, ◌<◌, eqb, length, get_or};
 ghost use Rattle.octets.specs.Octets.{number_at};
 ghost use Rattle.uids.specs.Uids.{is_uid, unpadded};

@@ -1,5 +1,6 @@
 // Creating: N-CREATE decided: checks 6, 8 and 9, and what it does.
 #![tactic(auto)]
+
 ghost use Rattle.std.specs.Prelude.{◌≡◌, ◌+◌, ◌<◌, ◌≤◌, ltb, length};
 ghost use Rattle.choice.specs.Rules.{first_broken};
 ghost use Rattle.rules.specs.declared.Operation.TheVariants.{Create};

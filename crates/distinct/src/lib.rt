@@ -1,5 +1,6 @@
 // Distinct: "UIDs differ", made ones by their serials, sent ones by their characters, each read where it lies.
 #![tactic(auto)]
+
 ghost use Rattle.std.specs.Prelude.{◌≡◌, ◌+◌, ◌<◌, ◌≤◌, [], ◌∷◌, eqb, length, drop};
 ghost use Rattle.choice.specs.Pick.{pick};
 ghost use Rattle.rules.specs.Lists.{apart};

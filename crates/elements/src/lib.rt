@@ -1,5 +1,6 @@
 // Elements: the reader of element lists, in implicit and explicit VR, with defined and undefined lengths.
 #![tactic(auto)]
+
 ghost use Rattle.std.specs.Prelude.{◌≡◌, ◌≤◌, ◌-◌, length};
 ghost use Rattle.elements.specs.Reader.{most_nested, refused_at, element_at, item_at, list_at, data_scope, data_set};
 ghost use Rattle.elements.specs.Passed.{delimiters, element_passed, item_passed_at, passed_in, headers_passed};

@@ -1,5 +1,6 @@
 // Entries: the queue and its entries, tested by the records' rules where they stand.
 #![tactic(auto)]
+
 ghost use Rattle.std.specs.Prelude.{◌≡◌, ◌+◌, ◌*◌, ◌<◌, ◌≤◌, ltb, length};
 ghost use Rattle.fields.specs.Format.{array};
 ghost use Rattle.rules.specs.Bounds.{most_boxes};

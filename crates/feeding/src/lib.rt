@@ -1,5 +1,6 @@
 // Feeding: what a feed is refused for, the response that it writes, and the records afterwards.
 #![tactic(auto)]
+
 ghost use Rattle.std.specs.Prelude.{true, ◌≡◌, ◌≤◌, length, take};
 ghost use Rattle.choice.specs.Rules.{first_broken};
 ghost use Rattle.octets.specs.Octets.{laid};

@@ -1,6 +1,7 @@
 // Fields: how values stand in bytes. Most of it is definitions and their laws; the code is what reads and writes the numbers
 // and the byte arrays of records.
 #![tactic(auto)]
+
 ghost use Rattle.std.specs.Prelude.{◌≡◌, ◌+◌, ◌≤◌, ◌<◌, length};
 ghost use Rattle.fields.specs.Format.{write, byte, number, array};
 

@@ -1,5 +1,6 @@
 // Films: layouts, boxes and films, tested by the records' rules where they stand.
 #![tactic(auto)]
+
 ghost use Rattle.std.specs.Prelude.{◌≡◌, ◌+◌, ◌*◌, ◌<◌, ◌≤◌, [], ◌∷◌, length, take};
 ghost use Rattle.fields.specs.Format.{byte, array};
 ghost use Rattle.rules.specs.Bounds.{most_boxes};

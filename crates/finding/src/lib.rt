@@ -1,5 +1,6 @@
 // Finding: what a list holds under a tag, and the items of a sequence.
 #![tactic(auto)]
+
 ghost use Rattle.std.specs.Prelude.{◌≡◌, true, ◌≤◌, length};
 ghost use Rattle.headers.specs.Header.{head_at};
 ghost use Rattle.elements.specs.Reader.{element_at};

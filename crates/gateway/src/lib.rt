@@ -1,5 +1,6 @@
 // Gateway: the calls that C links.
 #![tactic(auto)]
+
 ghost use Rattle.runs.specs.CallContracts.{StartMet, OpenMet, FeedMet, CloseMet, TakeMet};
 
 #[unsafe(no_mangle)]

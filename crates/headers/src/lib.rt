@@ -1,5 +1,6 @@
 // Headers: what a header says of its length, the header of an item, and where a list or a sequence ends.
 #![tactic(auto)]
+
 ghost use Rattle.std.specs.Prelude.{◌≡◌, ◌+◌, ◌≤◌, ◌<◌, length};
 ghost use Rattle.headers.specs.declared.Syntax.TheVariants.{Implicit, Explicit};
 ghost use Rattle.headers.specs.Header.{syntax_of, tag_at, length_head, item_head_at, close_at};

@@ -1,5 +1,6 @@
 // Inspect: whether bytes are a data set, where the reading stopped, and how many headers it passed, called from C.
 #![tactic(auto)]
+
 ghost use Rattle.std.specs.Prelude.{◌≤◌, ◌≡◌, length};
 ghost use Rattle.inspect.specs.Inspected.{stop_laid, inspected};
 

@@ -1,5 +1,6 @@
 // Instances: the UID that a name stands for, made or sent, and which class and which instance a UID names.
 #![tactic(auto)]
+
 ghost use Rattle.std.specs.Prelude.{◌≡◌, true, ◌+◌, ◌≤◌, ◌<◌, length};
 ghost use Rattle.octets.specs.Octets.{same};
 ghost use Rattle.uids.specs.Uids.{begins_with};

@@ -1,5 +1,6 @@
 // Layouts: the lines of boxes that a film's format gives, and how many boxes they have.
 #![tactic(auto)]
+
 ghost use Rattle.std.specs.Prelude.{true, ◌≡◌, ◌+◌, ◌<◌, ◌≤◌, ltb, length, take, replicate};
 ghost use Rattle.choice.specs.Pick.{pick};
 ghost use Rattle.rules.specs.Lists.{sum, filled_to};

@@ -1,5 +1,6 @@
 // Making: the UID of a root and a serial, written, and compared with another.
 #![tactic(auto)]
+
 ghost use Rattle.std.specs.Prelude.{◌≡◌, ◌+◌, ◌≤◌, ◌%◌, length};
 ghost use Rattle.octets.specs.Octets.{laid, same};
 ghost use Rattle.uids.specs.Uids.{decimal, made};

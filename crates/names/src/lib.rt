@@ -1,5 +1,6 @@
 // Names: names and numbers, tested by the records' rules where they stand.
 #![tactic(auto)]
+
 ghost use Rattle.std.specs.Prelude.{◌≡◌, ◌+◌, ◌-◌, ◌≤◌, ◌<◌, length, take, drop};
 ghost use Rattle.octets.specs.Octets.{number_at};
 ghost use Rattle.rules.specs.Layout.{name_size, numbers_size, name_format};

@@ -1,5 +1,6 @@
 // Opening: start, open and close.
 #![tactic(auto)]
+
 ghost use Rattle.std.specs.Prelude.{◌≡◌, ◌-◌, ◌<◌, ◌≤◌, length, replicate};
 ghost use Rattle.choice.specs.Rules.{first_broken};
 ghost use Rattle.octets.specs.Octets.{laid};

@@ -1,5 +1,6 @@
 // Printing: checks 10 and 11 of N-ACTION, and what it queues.
 #![tactic(auto)]
+
 ghost use Rattle.std.specs.Prelude.{◌≡◌, ◌+◌, ◌-◌, ◌<◌, ◌≤◌, [], ◌∷◌, ◌++◌, map, length, take, drop, ◌==◌, nat_lt, slice_index_or};
 ghost use Rattle.choice.specs.Pick.{both, not};
 ghost use Rattle.choice.specs.Rules.{◌⇒◌, first_broken};

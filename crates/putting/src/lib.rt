@@ -1,5 +1,6 @@
 // Putting: headers and elements written, a value padded to even length.
 #![tactic(auto)]
+
 ghost use Rattle.std.specs.Prelude.{◌≡◌, ◌+◌, ◌≤◌, ◌%◌, length};
 ghost use Rattle.octets.specs.Octets.{octets, laid};
 ghost use Rattle.tags.specs.Table.{US, UL};

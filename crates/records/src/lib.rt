@@ -1,5 +1,6 @@
 // Records: the records' structs, read from their bytes and written to them, as the book's formats say.
 #![tactic(auto)]
+
 ghost use Rattle.std.specs.Prelude.{◌≡◌, ◌+◌, ◌*◌, ◌≤◌, length};
 ghost use Rattle.fields.specs.Format.{write, array};
 ghost use Rattle.rules.specs.Bounds.{most_sessions, most_films, most_boxes, most_entries};

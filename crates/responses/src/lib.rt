@@ -1,5 +1,6 @@
 // Responses, the created film's data set and the report, written into lent buffers.
 #![tactic(auto)]
+
 ghost use Rattle.std.specs.Prelude.{map, ◌≡◌, ◌+◌, ◌*◌, ◌≤◌, length};
 ghost use Rattle.octets.specs.Octets.{octets, laid};
 ghost use Rattle.uids.specs.Uids.{made};

@@ -1,5 +1,6 @@
 // The book of printing: the types of the records and of requests. Its definitions stand in specs/; it has no code.
 #![tactic(auto)]
+
 use elements::Stop;
 use headers::{Inside, Part};
 

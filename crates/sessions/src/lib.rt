@@ -1,5 +1,6 @@
 // Sessions: the film session, tested by the records' rules where it stands.
 #![tactic(auto)]
+
 ghost use Rattle.std.specs.Prelude.{◌≡◌, ◌+◌, ◌≤◌, length};
 ghost use Rattle.octets.specs.Octets.{same};
 ghost use Rattle.rules.specs.Layout.{numbers_size, session_size, session_format};

@@ -1,5 +1,6 @@
 // Setting: N-SET decided, checks 6, 8 and 9 and what is stored.
 #![tactic(auto)]
+
 ghost use Rattle.std.specs.Prelude.{◌≡◌, true, ◌<◌, ◌≤◌, length, get_or};
 ghost use Rattle.choice.specs.Pick.{pick};
 ghost use Rattle.choice.specs.Rules.{first_broken};

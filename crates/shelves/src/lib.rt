@@ -1,5 +1,6 @@
 // Shelves: what is not there and what is new: names, films, boxes, sessions and entries; the film at a place.
 #![tactic(auto)]
+
 ghost use Rattle.std.specs.Prelude.{◌≡◌, ◌<◌, ◌≤◌, [], map, length, get_or, take};
 ghost use Rattle.rules.specs.Bounds.{most_boxes};
 ghost use Rattle.rules.specs.Lists.{from, filled_to};

@@ -1,5 +1,6 @@
 // Soundness: the rules that the records keep, tested where they stand, and what every call but start begins with.
 #![tactic(auto)]
+
 ghost use Rattle.std.specs.Prelude.{◌≡◌, [], ◌∷◌, ◌≤◌, eqb, length};
 ghost use Rattle.choice.specs.Pick.{pick};
 ghost use Rattle.choice.specs.Rules.{first_broken};

@@ -1,5 +1,6 @@
 // Standings: how an attribute stands in a data set, as a number, and the status that the worst of them gives (check 8).
 #![tactic(auto)]
+
 ghost use Rattle.std.specs.Prelude.{◌≡◌, ◌≤◌, length};
 ghost use Rattle.rules.specs.Commands.{placed, bytes_of};
 ghost use Rattle.standings.specs.Severity.{kind_of, severity_by, optional_by, given_by, worse, status_of};

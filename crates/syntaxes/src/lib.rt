@@ -1,5 +1,6 @@
 // Syntaxes: the VR and the header of an element in implicit and in explicit VR.
 #![tactic(auto)]
+
 ghost use Rattle.std.specs.Prelude.{◌≡◌, ◌+◌, ◌≤◌, true, false, length};
 ghost use Rattle.octets.specs.Octets.{number_at};
 ghost use Rattle.tags.specs.Table.{form_of, implicit_vr, differs};

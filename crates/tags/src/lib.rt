@@ -1,5 +1,6 @@
 // Tags: the value representations (VR) of rule 5.10 and the tags of rule 5.14 (docs/RULES.md).
 #![tactic(auto)]
+
 ghost use Rattle.std.specs.Prelude.{◌≡◌};
 ghost use Rattle.tags.specs.Table.{named, forms, named_vr, form_of};
 

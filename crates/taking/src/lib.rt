@@ -1,5 +1,6 @@
 // Taking: the oldest entry of the queue, from where the records lie.
 #![tactic(auto)]
+
 ghost use Rattle.std.specs.Prelude.{◌≡◌, ◌+◌, ◌*◌, ◌≤◌, length, take, drop};
 ghost use Rattle.choice.specs.Rules.{first_broken};
 ghost use Rattle.octets.specs.Octets.{laid};

@@ -1,5 +1,6 @@
 // Texts: spaces taken off; counts and labels as the book reads them.
 #![tactic(auto)]
+
 ghost use Rattle.std.specs.Prelude.{◌≡◌, ◌≤◌, ◌<◌, length, take, drop};
 ghost use Rattle.rules.specs.Lists.{every};
 ghost use Rattle.rules.specs.Values.{without_leading, without_trailing, trimmed, blank, without_plus, count_in, label_byte, label_allowed};

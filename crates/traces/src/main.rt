@@ -2,6 +2,7 @@
 // are a trace and its replies, by turns. Writes a line for each trace: how many replies were as kept, and whether
 // another came then.
 #![tactic(auto)]
+
 mod calls;
 mod replies;
 mod words;

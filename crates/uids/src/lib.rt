@@ -1,5 +1,6 @@
 // Unique identifiers: whether a slice holds one, its padding, and its root.
 #![tactic(auto)]
+
 ghost use Rattle.std.specs.Prelude.{◌≡◌, ◌≤◌, length};
 ghost use Rattle.uids.specs.Uids.{digits, component, is_uid, unpadded, begins_with};
 

@@ -21,9 +21,9 @@ module _ (s w : List ℕ) (e : w ≡ trimmed s) (t : List ℕ) (ts : List (List 
   pub code_next : (n : ℕ) → b ≡ false → ltb 0 n ≡ true → n - 1 ≡ code_in ts s → n ≡ code_in (t ∷ ts) s
   unfolding code_in place_of
   code_next n h l k =
-    let m : n ≡ suc (n - 1) = omega (arith, ltb-true 0 n l) in
-    let g : same t (trimmed s) ≡ false = ap (λ (x : List ℕ). same t x) (sym e) ∙ sym f ∙ h in
-    m ∙ ap suc k ∙ sym (rw g)
+      let m : n ≡ suc (n - 1) = omega (arith, ltb-true 0 n l) in
+      let g : same t (trimmed s) ≡ false = ap (λ (x : List ℕ). same t x) (sym e) ∙ sym f ∙ h in
+      m ∙ ap suc k ∙ sym (rw g)
 
 pub code_end : (s : List ℕ) → 0 ≡ code_in [] s
 unfolding code_in place_of

@@ -1,5 +1,6 @@
 // Values: codes and numbers as the book reads them.
 #![tactic(auto)]
+
 ghost use Rattle.std.specs.Prelude.{◌≡◌, ◌≤◌, ◌<◌};
 ghost use Rattle.rules.specs.Values.{code_in, priorities, media, destinations, orientations, magnifications, polarities, photometrics, us_in};
 

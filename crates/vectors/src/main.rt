@@ -2,6 +2,7 @@
 // number of the refusal, or the value of each named tag, at the top level and in the only item of a sequence. The
 // arguments are a file and its syntax, by turns. What is expected is those tools' own reading.
 #![tactic(auto)]
+
 ghost use Rattle.std.specs.Prelude.{◌≤◌, length};
 
 use elements::{Found, Items, Read};

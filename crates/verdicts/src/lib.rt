@@ -1,5 +1,6 @@
 // Verdicts: the names that a verdict has, and the decisions that tell nothing but an instance, or fail.
 #![tactic(auto)]
+
 ghost use Rattle.std.specs.Prelude.{◌≡◌, length};
 ghost use Rattle.rules.specs.Commands.{uid_at};
 ghost use Rattle.rules.specs.Records.{sent_name};

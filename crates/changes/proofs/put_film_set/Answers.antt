@@ -1,0 +1,26 @@
+use Prim.Native.Nat.{◌<◌}
+use mathlib.Core.Path.{◌∙◌}
+use native.Mathlib.Omega.{arith}
+use Rattle.rules.specs.Bounds.{most_films}
+use Rattle.changes.proofs.Changed.{place_below, film_set_lem}
+use borrow.Author.Rules.{rules}
+use Rattle.changes.proofs.put_film_set.Goals as goal
+
+below : (c : tie.After-slice-known) → c.before.args.place < most_films
+below c = let a = c.before.args in
+    place_below a.b.now (λ i. omega (arith, c.slice-known.given i)) c.before.requires.0 a.place c.before.requires.2
+
+pub overflow_mul-place : goal.overflow_mul-place
+overflow_mul-place c = let l = below c in search rules
+
+pub overflow_add-place : goal.overflow_add-place
+overflow_add-place c = let l = below c in search rules
+
+pub put_film-requires : goal.put_film-requires
+put_film-requires c = let l = below c in search rules
+
+pub returns : goal.returns
+returns c =
+    let a = c.args in
+    c.put_film.ensures
+    ∙ film_set_lem a.b.now (λ i. omega (arith, c.slice_known-1.given i)) c.requires.0 a.place a.film c.requires.1 c.requires.2

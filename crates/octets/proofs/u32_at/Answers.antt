@@ -1,0 +1,16 @@
+use Prim.Native.Nat.{ℕ, ◌+◌, ◌*◌}
+use mathlib.Core.Path.{◌≡◌}
+use mathlib.Core.List.{List}
+use native.Mathlib.Omega.{arith}
+use lib.ListN.{get_or}
+use Rattle.octets.specs.Octets.{number_at}
+use Rattle.octets.proofs.u32_at.Goals as goal
+
+four_bytes : (s : List ℕ) (at : ℕ) → number_at 4 s at ≡ get_or s at 0 + 256 * get_or s (at + 1) 0 + 65536 * get_or s (at + 1 + 1) 0 + 16777216 * get_or s (at + 1 + 1 + 1) 0
+unfolding number_at
+four_bytes s at = omega arith
+
+pub returns : goal.returns
+returns c =
+    let n = four_bytes c.args.s.now c.args.at in
+    (omega arith, omega arith)

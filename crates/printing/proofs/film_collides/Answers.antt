@@ -1,0 +1,6 @@
+use Rattle.std.proofs.Common.{ap, ◌∙◌}
+use Rattle.printing.proofs.Positions.{collide}
+use Rattle.printing.proofs.film_collides.Goals as goal
+
+pub returns : goal.returns
+returns c = c.boxes_collide.ensures ∙ ap collide c.places.ensures.1

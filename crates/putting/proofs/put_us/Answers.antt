@@ -1,0 +1,4 @@
+use Rattle.putting.proofs.put_us.Goals as goal
+
+pub returns : goal.returns
+returns c = c.put_number_element.ensures

@@ -1,0 +1,25 @@
+use Prim.Native.Nat.{◌-◌}
+use mathlib.Core.Path.{refl}
+use Rattle.fields.proofs.Turns.{write_none, write_turn, write_done}
+use Rattle.rules.specs.Bounds.{most_boxes}
+use Rattle.rules.specs.Layout.{picture_format}
+use Rattle.rules.proofs.Sizes.{picture_size_lem}
+use Rattle.rules.proofs.Steps.{picture_steps}
+use borrow.Author.Rules.{rules}
+use Rattle.records.proofs.put_pictures.Goals as goal
+
+pub loop-i-init : goal.loop-i-init
+loop-i-init c = let a = c.args in
+    (search rules, refl, write_none picture_format a.s.now a.p a.a)
+
+pub loop-i-preserved : goal.loop-i-preserved
+unfolding picture_format
+loop-i-preserved c =
+    let o = c.loop-i in
+    let a = c.args in
+    (search rules, search rules, write_turn picture_steps.laws picture_size_lem a.s.now o.s c.put_picture.new.0 a.p o.i a.a (search rules) c.put_picture.ensures o.invariant.2)
+
+pub returns : goal.returns
+returns c = let o = c.loop-i in
+    let a = c.args in
+    write_done picture_format a.s.now o.s a.p most_boxes o.i a.a c.loop-i-test.false o.invariant.0 o.invariant.2

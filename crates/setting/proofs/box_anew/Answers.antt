@@ -1,0 +1,42 @@
+use Prim.Native.Nat.{◌<◌}
+use mathlib.Core.Path.{ap, ◌∙◌}
+use Rattle.rules.specs.Bounds.{most_films}
+use Rattle.rules.specs.Attributes.{listing_of, box_with}
+use Rattle.setting.proofs.InPlace.{film_place_lem, box_read}
+use borrow.Author.Rules.{rules}
+use Rattle.setting.proofs.box_anew.Goals as goal
+
+below : (o : tie.Start) → o.args.i < most_films
+below o = film_place_lem o.args.b.now o.requires.1 o.args.i o.requires.2
+
+pub overflow_mul-i : goal.overflow_mul-i
+overflow_mul-i c =
+    let l = below c in
+    search rules
+
+pub overflow_add-i : goal.overflow_add-i
+overflow_add-i c =
+    let l = below c in
+    search rules
+
+pub overflow_add-i-2 : goal.overflow_add-i-2
+overflow_add-i-2 c =
+    let l = below c in
+    search rules
+
+pub overflow_add-i-3 : goal.overflow_add-i-3
+overflow_add-i-3 c =
+    let l = below c in
+    search rules
+
+pub image_box_at-old-requires : goal.image_box_at-old-requires
+image_box_at-old-requires c =
+    let l = below c in
+    search rules
+
+pub returns : goal.returns
+returns c =
+    let a = c.args in
+    let p = c.requires in
+    let l = listing_of a.d.now a.syntax in
+    c.box_with.ensures ∙ ap (box_with a.number l) (c.image_box_at-old.ensures ∙ box_read a.b.now p.1 a.i p.2 a.j p.3)

@@ -1,0 +1,19 @@
+use borrow.Author.Tests.{eq-eqb, ne_eqb}
+use Rattle.standings.specs.Severity.{given_by}
+use Rattle.standings.proofs.is_given.Goals as goal
+
+pub returns-then-kind-eq0 : goal.returns-then-kind-eq0
+unfolding given_by
+returns-then-kind-eq0 c = simp (eq-eqb _ _ c.if-kind-eq0.true)
+
+pub returns-then-kind-eq2 : goal.returns-then-kind-eq2
+unfolding given_by
+returns-then-kind-eq2 c = simp (ne_eqb _ _ c.if-kind-eq0.false, eq-eqb _ _ c.if-kind-eq2.true)
+
+pub returns-then-empty : goal.returns-then-empty
+unfolding given_by
+returns-then-empty c = simp (ne_eqb _ _ c.if-kind-eq0.false, ne_eqb _ _ c.if-kind-eq2.false, c.if-empty.true)
+
+pub returns : goal.returns
+unfolding given_by
+returns c = simp (ne_eqb _ _ c.if-kind-eq0.false, ne_eqb _ _ c.if-kind-eq2.false, c.if-empty.false)
