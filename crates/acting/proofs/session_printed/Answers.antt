@@ -30,3 +30,9 @@ returns c =
       effect_fits a.k SessionPrinted a.name status count c.films_queued.result c.films_queued.ensures
           (films_under_lem a.k c.requires.0.0, session_room a.k _ c.session_print_broken-broken.ensures c.if-broken-ne0.false),
     )
+
+pub session_print_broken-broken-requires : goal.session_print_broken-broken-requires
+session_print_broken-broken-requires c = films_under_lem c.args.k c.requires.0.0
+
+pub any_empty-requires : goal.any_empty-requires
+any_empty-requires c = films_under_lem c.args.k c.requires.0.0

@@ -10,6 +10,6 @@ use Rattle.attributes.proofs.class_severity.Goals as goal
 
 pub returns : goal.returns
 returns c =
-    by_value no_bytes (λ v. both (is_uid (unpadded v)) (same session_class (unpadded v))) _ c.args.found c.seen-kind.ensures.0 c.value_of_lem.ensures refl
+    by_value no_bytes (λ v. both (is_uid (unpadded v)) (same session_class (unpadded v))) _ c.args.found c.seen-kind.ensures.0 c.value_of-v.ensures refl
     (c.is_session_class.ensures ∙ ap (λ u. both (is_uid u) (same session_class u)) c.unpadded.ensures)
     severity_by c.severity.ensures

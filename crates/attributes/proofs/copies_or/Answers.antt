@@ -4,8 +4,8 @@ use Rattle.attributes.proofs.copies_or.Goals as goal
 
 pub returns-then-is_given : goal.returns-then-is_given
 returns-then-is_given c =
-    given_read (count_in 99) _ c.args.found _ c.seen-kind.ensures.0 c.value_of_lem.ensures c.is_blank.ensures c.is_given.ensures c.if-is_given.true c.count_in.ensures.0
+    given_read (count_in 99) _ c.args.found _ c.seen-kind.ensures.0 c.value_of-v.ensures c.is_blank.ensures c.is_given.ensures c.if-is_given.true c.count_in.ensures.0
 
 pub returns : goal.returns
 returns c =
-    not_given (count_in 99) _ c.args.found _ c.seen-kind.ensures.0 c.value_of_lem.ensures c.is_blank.ensures c.is_given.ensures c.if-is_given.false
+    not_given (count_in 99) _ c.args.found _ c.seen-kind.ensures.0 c.value_of-v.ensures c.is_blank.ensures c.is_given.ensures c.if-is_given.false

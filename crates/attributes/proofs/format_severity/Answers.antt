@@ -12,6 +12,6 @@ use Rattle.attributes.proofs.format_severity.Goals as goal
 pub returns : goal.returns
 returns c =
     let layout = c.layout_in-layout in
-    by_value blank (λ v. not (eqb (length (counts_in v)) 0)) _ c.args.found c.seen-kind.ensures.0 c.value_of_lem.ensures c.is_blank.ensures
+    by_value blank (λ v. not (eqb (length (counts_in v)) 0)) _ c.args.found c.seen-kind.ensures.0 c.value_of-v.ensures c.is_blank.ensures
     (nots (eqb layout.result.lines 0) ∙ ap (λ (r : Layout). not (eqb r.lines 0)) layout.ensures)
     severity_by c.severity.ensures

@@ -13,6 +13,6 @@ pub returns : goal.returns
 returns c =
     let a = c.args in
     let k = core_in a.b.now in
-    by_value no_bytes (λ v. both (is_uid (unpadded v)) (any (session_named k.numbers (unpadded v)) (sessions_of k))) _ c.args.found c.seen-kind.ensures.0 c.value_of_lem.ensures refl
+    by_value no_bytes (λ v. both (is_uid (unpadded v)) (any (session_named k.numbers (unpadded v)) (sessions_of k))) _ c.args.found c.seen-kind.ensures.0 c.value_of-v.ensures refl
     (c.is_session.ensures ∙ ap (λ u. both (is_uid u) (any (session_named k.numbers u) (sessions_of k))) c.unpadded.ensures)
     severity_by c.severity.ensures

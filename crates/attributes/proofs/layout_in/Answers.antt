@@ -12,4 +12,4 @@ value_of-requires c =
 pub returns : goal.returns
 unfolding layout_in
 returns c =
-    c.layout_in.ensures ∙ ap (λ v. layout_from (kind_in v) (counts_in v)) (c.value_of_lem.ensures ∙ ap (bytes_found c.args.d.now) c.requires.format)
+    c.layout_in.ensures ∙ ap (λ v. layout_from (kind_in v) (counts_in v)) (c.value_of.ensures ∙ ap (bytes_found c.args.d.now) c.requires.format)

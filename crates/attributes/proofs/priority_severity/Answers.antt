@@ -4,4 +4,4 @@ use Rattle.attributes.proofs.priority_severity.Goals as goal
 
 pub returns : goal.returns
 returns c =
-    code_told priorities _ c.args.found c.seen-kind.ensures.0 c.value_of_lem.ensures c.is_blank.ensures c.priority_in.ensures.0 c.optional_severity.ensures
+    code_told priorities _ c.args.found c.seen-kind.ensures.0 c.value_of-v.ensures c.is_blank.ensures c.priority_in.ensures.0 c.optional_severity.ensures

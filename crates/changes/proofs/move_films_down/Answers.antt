@@ -16,7 +16,7 @@ pub loop-p-preserved : goal.loop-p-preserved
 loop-p-preserved c =
     let o = c.loop-p in
     let a = c.args in
-    (search rules, search rules, search rules, moved_more a.b.now a.from film_size o.b o.p o.inv.0 (omega arith) o.inv.3)
+    (search rules, search rules, search rules, moved_more a.b.now a.from film_size o.b o.p o.invariant.0 (omega arith) o.invariant.3)
 
 pub returns : goal.returns
 returns c =

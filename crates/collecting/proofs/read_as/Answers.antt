@@ -1,6 +1,5 @@
 use mathlib.Core.Path.{sym, ap, ◌∙◌}
 use mathlib.Core.Bool.{Bool}
-use borrow.Author.Tests.{not-false, not-true}
 use Rattle.choice.specs.Pick.{pick}
 use Rattle.rules.specs.Sound.{readable}
 use Rattle.strike.specs.declared.Reading.TheVariants.{Alone, WithData}
@@ -9,14 +8,14 @@ use Rattle.collecting.proofs.read_as.Goals as goal
 
 pub returns-then-not-readable : goal.returns-then-not-readable
 returns-then-not-readable c =
-    sym (reading_none _ (sym (ap readable c.said-said.ensures.0) ∙ sym c.readable.ensures ∙ not-true c.readable.result c.if-not-readable.true))
+    sym (reading_none _ (sym (ap readable c.said-said.ensures.0) ∙ sym c.readable.ensures ∙ c.if-not-readable.true))
 
 pub returns-then-said : goal.returns-then-said
 returns-then-said c =
-    let read = sym c.readable.ensures ∙ not-false c.readable.result c.if-not-readable.false in
+    let read = sym c.readable.ensures ∙ c.if-not-readable.false in
     sym (reading_some _ (sym (ap readable c.said-said.ensures.0) ∙ read) ∙ ap (λ (b : Bool). pick b WithData Alone) (sym (c.said-said.ensures.1 read) ∙ c.if-said.true))
 
 pub returns : goal.returns
 returns c =
-    let read = sym c.readable.ensures ∙ not-false c.readable.result c.if-not-readable.false in
+    let read = sym c.readable.ensures ∙ c.if-not-readable.false in
     sym (reading_some _ (sym (ap readable c.said-said.ensures.0) ∙ read) ∙ ap (λ (b : Bool). pick b WithData Alone) (sym (c.said-said.ensures.1 read) ∙ c.if-said.false))

@@ -1,6 +1,5 @@
 use native.Mathlib.Omega.{arith}
 use mathlib.Core.Path.{◌∙◌}
-use borrow.Author.Tests.{not-false, not-true}
 use Rattle.commands.specs.Places.{slot_of}
 use Rattle.commands.specs.Requests.{echo_in, known_as}
 use Rattle.commands.proofs.Held.{held_in, held_uid}
@@ -12,10 +11,10 @@ has_uid-requires c = held_in c.requires 0x0000_0002 (omega arith)
 
 pub returns-then-not-has_uid : goal.returns-then-not-has_uid
 unfolding echo_in known_as slot_of
-returns-then-not-has_uid c = simp (← (c.has_uid.ensures ∙ held_uid c.requires 0x0000_0002 (omega arith)), not-true c.has_uid.result c.if-not-has_uid.true)
+returns-then-not-has_uid c = simp (← (c.has_uid.ensures ∙ held_uid c.requires 0x0000_0002 (omega arith)), c.if-not-has_uid.true)
 
 pub returns : goal.returns
 unfolding echo_in known_as slot_of
 returns c =
     let held = c.requires in
-    c.known.ensures ∙ simp (← (c.has_uid.ensures ∙ held_uid held 0x0000_0002 (omega arith)), not-false c.has_uid.result c.if-not-has_uid.false) (simp (← (held.each 0x0000_0002 (omega arith))))
+    c.known.ensures ∙ simp (← (c.has_uid.ensures ∙ held_uid held 0x0000_0002 (omega arith)), c.if-not-has_uid.false) (simp (← (held.each 0x0000_0002 (omega arith))))

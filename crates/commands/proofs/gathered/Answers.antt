@@ -25,4 +25,7 @@ loop-parts-smaller c =
 
 pub loop-parts-preserved : goal.loop-parts-preserved
 loop-parts-preserved c =
-    walk_on _ _ _ _ c.loop-parts.invariant _ c.closing-close.ensures c.in_default.is _ c.behind.ensures c.in-Past.is _ c.tag_at-t.ensures.0 c.if-t-ge65536.false _ c.element_head-head.ensures _ c.slot-k.ensures.0 _ c.value_of_lem.ensures
+    walk_on _ _ _ _ c.loop-parts.invariant _ c.closing-close.ensures c.in_default.is _ c.behind.ensures c.in-Past.is _ c.tag_at-t.ensures.0 c.if-t-ge65536.false _ c.element_head-head.ensures _ c.slot-k.ensures.0 _ c.value_of-value.ensures
+
+pub returns-in-Refused : goal.returns-in-Refused
+returns-in-Refused c = search walks

@@ -1,6 +1,5 @@
 use native.Mathlib.Omega.{arith}
 use mathlib.Core.Path.{◌∙◌}
-use borrow.Author.Tests.{not-false, not-true}
 use Rattle.commands.specs.Places.{slot_of}
 use Rattle.commands.proofs.Held.{held_in, held_uid}
 use Rattle.commands.proofs.has_target.Goals as goal
@@ -11,7 +10,7 @@ has_uid-requires c = held_in c.requires 0x0000_0003 (omega arith)
 
 pub returns-then-not-has_uid : goal.returns-then-not-has_uid
 unfolding slot_of
-returns-then-not-has_uid c = simp (← (c.has_uid.ensures ∙ held_uid c.requires 0x0000_0003 (omega arith)), not-true c.has_uid.result c.if-not-has_uid.true)
+returns-then-not-has_uid c = simp (← (c.has_uid.ensures ∙ held_uid c.requires 0x0000_0003 (omega arith)), c.if-not-has_uid.true)
 
 pub has_uid-requires-2 : goal.has_uid-requires-2
 unfolding slot_of
@@ -21,4 +20,4 @@ pub returns : goal.returns
 unfolding slot_of
 returns c =
     let held = c.requires in
-    simp (← (c.has_uid.ensures ∙ held_uid held 0x0000_0003 (omega arith)), not-false c.has_uid.result c.if-not-has_uid.false, ← (c.has_uid-2.ensures ∙ held_uid held 0x0000_1001 (omega arith)))
+    simp (← (c.has_uid.ensures ∙ held_uid held 0x0000_0003 (omega arith)), c.if-not-has_uid.false, ← (c.has_uid-2.ensures ∙ held_uid held 0x0000_1001 (omega arith)))

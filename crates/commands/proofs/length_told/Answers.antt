@@ -2,7 +2,7 @@ use native.Mathlib.Omega.{arith}
 use borrow.Author.Tests.{eq-eqb, ne_eqb}
 use Rattle.rules.specs.Commands.{length_told}
 use Rattle.commands.specs.Places.{slot_of}
-use Rattle.commands.proofs.Held.{held_in}
+use Rattle.commands.proofs.Held.{held_in, twelve_at_least}
 use Rattle.commands.proofs.length_told.Goals as goal
 
 pub overflow_sub-p : goal.overflow_sub-p
@@ -22,3 +22,6 @@ u32_at-requires c =
 pub returns : goal.returns
 unfolding length_told slot_of
 returns c = simp (← (c.requires.each 0x0000_0000 (omega arith)), eq-eqb _ _ c.if-p-ne4.false, ← c.u32_at.ensures.0)
+
+pub overflow_sub-result : goal.overflow_sub-result
+overflow_sub-result c = omega (arith, twelve_at_least c.requires c.if-p-ne4.false)

@@ -1,12 +1,11 @@
 use mathlib.Core.Path.{◌∙◌}
-use borrow.Author.Tests.{not-false, not-true}
 use Rattle.commands.specs.Requests.{setting_in, known_as, target_in}
 use Rattle.commands.proofs.setting.Goals as goal
 
 pub returns-then-not-has_target : goal.returns-then-not-has_target
 unfolding setting_in known_as target_in
-returns-then-not-has_target c = simp (← c.has_target.ensures, not-true c.has_target.result c.if-not-has_target.true)
+returns-then-not-has_target c = simp (← c.has_target.ensures, c.if-not-has_target.true)
 
 pub returns : goal.returns
 unfolding setting_in known_as target_in
-returns c = c.known.ensures ∙ simp (← c.has_target.ensures, not-false c.has_target.result c.if-not-has_target.false, ← c.target.ensures)
+returns c = c.known.ensures ∙ simp (← c.has_target.ensures, c.if-not-has_target.false, ← c.target.ensures)

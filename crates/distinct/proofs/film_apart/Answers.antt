@@ -1,5 +1,4 @@
 use mathlib.Core.Path.{sym, ◌∙◌}
-use borrow.Author.Tests.{not-true, not-false}
 use Rattle.rules.specs.Layout.{film_format}
 use Rattle.distinct.proofs.Told.{film_told, boxes_told, own_among, own_taken, own_apart}
 use Rattle.distinct.proofs.film_apart.Goals as goal
@@ -18,7 +17,7 @@ returns-then-not-serials_free c =
     let p = c.args.p in
     let own = film_told b p _ _ c.made_at-own.ensures.0 c.own_count-owned.ensures.0 in
     let boxes = boxes_told (film_format.read b p) _ _ c.first_at-first.ensures.0 c.box_count-count.ensures.0 in
-    own_taken (film_format.read b p) _ _ own boxes _ (sym c.overlapping.ensures ∙ c.if-overlapping.false) (sym c.serials_free.ensures ∙ not-true c.serials_free.result c.if-not-serials_free.true)
+    own_taken (film_format.read b p) _ _ own boxes _ (sym c.overlapping.ensures ∙ c.if-overlapping.false) (sym c.serials_free.ensures ∙ c.if-not-serials_free.true)
 
 pub returns : goal.returns
 returns c =
@@ -26,4 +25,4 @@ returns c =
     let p = c.args.p in
     let own = film_told b p _ _ c.made_at-own.ensures.0 c.own_count-owned.ensures.0 in
     let boxes = boxes_told (film_format.read b p) _ _ c.first_at-first.ensures.0 c.box_count-count.ensures.0 in
-    own_apart (film_format.read b p) _ _ own boxes _ (sym c.overlapping.ensures ∙ c.if-overlapping.false) _ (sym c.serials_free.ensures ∙ not-false c.serials_free.result c.if-not-serials_free.false) c.serials_free-2.ensures
+    own_apart (film_format.read b p) _ _ own boxes _ (sym c.overlapping.ensures ∙ c.if-overlapping.false) _ (sym c.serials_free.ensures ∙ c.if-not-serials_free.false) c.serials_free-2.ensures

@@ -1,6 +1,5 @@
 use Prim.Native.Nat.{◌-◌}
 use mathlib.Core.Path.{refl, sym, ◌∙◌}
-use borrow.Author.Tests.{not-true, not-false}
 use Rattle.distinct.proofs.Films.{serials_apart_lem}
 use Rattle.distinct.proofs.Steps.{step_on, step_not, step_end}
 use Rattle.distinct.proofs.films_apart.Goals as goal
@@ -12,13 +11,13 @@ pub returns-then-not-film_apart : goal.returns-then-not-film_apart
 returns-then-not-film_apart c =
     let a = c.args in
     let o = c.loop-i in
-    sym (o.inv ∙ step_not serials_apart_lem a.b.now a.n o.i c.loop-i-test.true c.requires.1 _ c.film_place.ensures.0 (sym c.film_apart.ensures ∙ not-true c.film_apart.result c.if-not-film_apart.true))
+    sym (o.invariant ∙ step_not serials_apart_lem a.b.now a.n o.i c.loop-i-test.true c.requires.1 _ c.film_place.ensures.0 (sym c.film_apart.ensures ∙ c.if-not-film_apart.true))
 
 pub loop-i-preserved : goal.loop-i-preserved
 loop-i-preserved c =
     let a = c.args in
     let o = c.loop-i in
-    o.inv ∙ step_on serials_apart_lem a.b.now a.n o.i c.loop-i-test.true c.requires.1 _ c.film_place.ensures.0 (sym c.film_apart.ensures ∙ not-false c.film_apart.result c.if-not-film_apart.false)
+    o.invariant ∙ step_on serials_apart_lem a.b.now a.n o.i c.loop-i-test.true c.requires.1 _ c.film_place.ensures.0 (sym c.film_apart.ensures ∙ c.if-not-film_apart.false)
 
 pub returns : goal.returns
 returns c =

@@ -2,7 +2,6 @@ use Prim.Native.Nat.{ℕ, ◌+◌, ◌<◌}
 use mathlib.Core.Path.{◌≡◌, sym, subst, ◌∙◌}
 use mathlib.Core.Bool.{Bool, true, false}
 use mathlib.Core.List.{List, ◌∷◌}
-use borrow.Author.Tests.{not-true, not-false}
 use Rattle.choice.specs.Pick.{both}
 use Rattle.rules.specs.Layout.{numbers_size, session_format}
 use Rattle.rules.specs.Lists.{apart}
@@ -28,7 +27,7 @@ unfolding session_format
 returns-then-not-serials_free c =
     let b = c.args.b.now in
     let own = own_told b (numbers_size + 1) _ _ c.made_at-own.ensures.0 c.own_count.ensures.0 in
-    paired b c.args.n _ false own (sym (not-true c.serials_free.result c.if-not-serials_free.true) ∙ c.serials_free.ensures)
+    paired b c.args.n _ false own (sym (c.if-not-serials_free.true) ∙ c.serials_free.ensures)
 
 pub returns : goal.returns
 unfolding session_format
@@ -36,4 +35,4 @@ returns c =
     let b = c.args.b.now in
     let s = c.serials_free in
     let own = own_told b (numbers_size + 1) _ _ c.made_at-own.ensures.0 c.own_count.ensures.0 in
-    c.films_apart.ensures ∙ paired b c.args.n _ true own (sym (not-false s.result c.if-not-serials_free.false) ∙ s.ensures)
+    c.films_apart.ensures ∙ paired b c.args.n _ true own (sym (c.if-not-serials_free.false) ∙ s.ensures)

@@ -1,6 +1,5 @@
 use Prim.Native.Nat.{◌-◌}
 use mathlib.Core.Path.{refl, sym, ◌∙◌}
-use borrow.Author.Tests.{not-true, not-false}
 use Rattle.distinct.specs.Apart.{serials}
 use Rattle.distinct.proofs.Films.{serials_free_lem}
 use Rattle.distinct.proofs.Steps.{step_on, step_not, step_end}
@@ -13,13 +12,13 @@ pub returns-then-not-free_of_film : goal.returns-then-not-free_of_film
 returns-then-not-free_of_film c =
     let a = c.args in
     let o = c.loop-i in
-    sym (o.inv ∙ step_not (serials_free_lem (serials a.first a.count)) a.b.now a.n o.i c.loop-i-test.true c.requires.1 _ c.film_place.ensures.0 (sym c.free_of_film.ensures ∙ not-true c.free_of_film.result c.if-not-free_of_film.true))
+    sym (o.invariant ∙ step_not (serials_free_lem (serials a.first a.count)) a.b.now a.n o.i c.loop-i-test.true c.requires.1 _ c.film_place.ensures.0 (sym c.free_of_film.ensures ∙ c.if-not-free_of_film.true))
 
 pub loop-i-preserved : goal.loop-i-preserved
 loop-i-preserved c =
     let a = c.args in
     let o = c.loop-i in
-    o.inv ∙ step_on (serials_free_lem (serials a.first a.count)) a.b.now a.n o.i c.loop-i-test.true c.requires.1 _ c.film_place.ensures.0 (sym c.free_of_film.ensures ∙ not-false c.free_of_film.result c.if-not-free_of_film.false)
+    o.invariant ∙ step_on (serials_free_lem (serials a.first a.count)) a.b.now a.n o.i c.loop-i-test.true c.requires.1 _ c.film_place.ensures.0 (sym c.free_of_film.ensures ∙ c.if-not-free_of_film.false)
 
 pub returns : goal.returns
 returns c =

@@ -34,14 +34,14 @@ returns-then-same_bytes c =
     let text = c.args.text.now in
     let b = c.args.b.now in
     let o = c.loop-i in
-    sym (o.inv ∙ step_not (text_free_lem text) b c.args.n o.i c.loop-i-test.true c.requires.1 _ c.film_place.ensures.0 (told text _ b _ _ c.if-text-eq0.false c.sent_text.ensures c.same_bytes.ensures ∙ ap (λ (t : Bool). not t) c.if-same_bytes.true))
+    sym (o.invariant ∙ step_not (text_free_lem text) b c.args.n o.i c.loop-i-test.true c.requires.1 _ c.film_place.ensures.0 (told text _ b _ _ c.if-text-eq0.false c.sent_text.ensures c.same_bytes.ensures ∙ ap (λ (t : Bool). not t) c.if-same_bytes.true))
 
 pub loop-i-preserved : goal.loop-i-preserved
 loop-i-preserved c =
     let text = c.args.text.now in
     let b = c.args.b.now in
     let o = c.loop-i in
-    o.inv ∙ step_on (text_free_lem text) b c.args.n o.i c.loop-i-test.true c.requires.1 _ c.film_place.ensures.0 (told text _ b _ _ c.if-text-eq0.false c.sent_text.ensures c.same_bytes.ensures ∙ ap (λ (t : Bool). not t) c.if-same_bytes.false)
+    o.invariant ∙ step_on (text_free_lem text) b c.args.n o.i c.loop-i-test.true c.requires.1 _ c.film_place.ensures.0 (told text _ b _ _ c.if-text-eq0.false c.sent_text.ensures c.same_bytes.ensures ∙ ap (λ (t : Bool). not t) c.if-same_bytes.false)
 
 pub returns : goal.returns
 returns c =

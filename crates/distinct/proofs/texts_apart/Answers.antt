@@ -1,7 +1,6 @@
 use Prim.Native.Nat.{ℕ, ◌+◌, ◌-◌}
 use mathlib.Core.Path.{◌≡◌, refl, sym, ap, ◌∙◌}
 use lib.ListN.{drop}
-use borrow.Author.Tests.{not-true, not-false}
 use mathlib.Core.List.{List}
 use Rattle.rules.specs.Layout.{name_format, film_format}
 use Rattle.rules.specs.Sound.{sent_text}
@@ -23,14 +22,14 @@ returns-then-not-text_free c =
     let a = c.args in
     let o = c.loop-i in
     let text = film_text_lem a.b.now _ c.sent_text.ensures in
-    sym (o.inv ∙ step_not texts_apart_lem a.b.now a.n o.i c.loop-i-test.true c.requires.1 _ c.film_place.ensures.0 (ap (λ (t : List ℕ). text_free t (drop (o.i + 1) (films_in a.b.now a.n))) (sym text) ∙ sym c.text_free.ensures ∙ not-true c.text_free.result c.if-not-text_free.true))
+    sym (o.invariant ∙ step_not texts_apart_lem a.b.now a.n o.i c.loop-i-test.true c.requires.1 _ c.film_place.ensures.0 (ap (λ (t : List ℕ). text_free t (drop (o.i + 1) (films_in a.b.now a.n))) (sym text) ∙ sym c.text_free.ensures ∙ c.if-not-text_free.true))
 
 pub loop-i-preserved : goal.loop-i-preserved
 loop-i-preserved c =
     let a = c.args in
     let o = c.loop-i in
     let text = film_text_lem a.b.now _ c.sent_text.ensures in
-    o.inv ∙ step_on texts_apart_lem a.b.now a.n o.i c.loop-i-test.true c.requires.1 _ c.film_place.ensures.0 (ap (λ (t : List ℕ). text_free t (drop (o.i + 1) (films_in a.b.now a.n))) (sym text) ∙ sym c.text_free.ensures ∙ not-false c.text_free.result c.if-not-text_free.false)
+    o.invariant ∙ step_on texts_apart_lem a.b.now a.n o.i c.loop-i-test.true c.requires.1 _ c.film_place.ensures.0 (ap (λ (t : List ℕ). text_free t (drop (o.i + 1) (films_in a.b.now a.n))) (sym text) ∙ sym c.text_free.ensures ∙ c.if-not-text_free.false)
 
 pub returns : goal.returns
 returns c =

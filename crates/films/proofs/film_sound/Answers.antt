@@ -1,6 +1,6 @@
 use mathlib.Core.Path.{refl, sym, ◌∙◌}
 use native.Mathlib.Omega.{arith}
-use borrow.Author.Tests.{not-false, le-leb, lt-leb}
+use borrow.Author.Tests.{le-leb, lt-leb}
 use Rattle.rules.specs.Layout.{serial_format, name_format, film_format}
 use Rattle.names.proofs.Tests.{first_passes, first_fails, last_told, told_is, tests}
 use Rattle.films.proofs.Lines.{boxes_most}
@@ -11,7 +11,7 @@ pub boxes_fit-requires : goal.boxes_fit-requires
 unfolding film_format name_format serial_format
 boxes_fit-requires c =
     let x = c.layout_sound in
-    let most = boxes_most (film_format.read c.args.b.now c.args.p).layout (sym x.ensures ∙ not-false x.result c.if-not-layout_sound.false) in
+    let most = boxes_most (film_format.read c.args.b.now c.args.p).layout (sym x.ensures ∙ c.if-not-layout_sound.false) in
     (omega arith, omega (arith, c.box_count-count.ensures.0), c.requires.3)
 
 pub returns-then-not-name_sound : goal.returns-then-not-name_sound

@@ -13,13 +13,13 @@ pub returns-then-not-has_session : goal.returns-then-not-has_session
 returns-then-not-has_session c =
     let b = c.args.b.now in
     let o = c.loop-i in
-    sym (o.inv ∙ film_not (has_session (session_in b ∷ [])) b c.args.n o.i _ c.film_place.ensures.0 c.loop-i-test.true c.requires.1 c.has_session.result c.has_session.ensures c.if-not-has_session.true)
+    sym (o.invariant ∙ film_not (has_session (session_in b ∷ [])) b c.args.n o.i _ c.film_place.ensures.0 c.loop-i-test.true c.requires.1 c.has_session.result c.has_session.ensures c.if-not-has_session.true)
 
 pub loop-i-preserved : goal.loop-i-preserved
 loop-i-preserved c =
     let b = c.args.b.now in
     let o = c.loop-i in
-    o.inv ∙ film_on (has_session (session_in b ∷ [])) b c.args.n o.i _ c.film_place.ensures.0 c.loop-i-test.true c.requires.1 c.has_session.result c.has_session.ensures c.if-not-has_session.false
+    o.invariant ∙ film_on (has_session (session_in b ∷ [])) b c.args.n o.i _ c.film_place.ensures.0 c.loop-i-test.true c.requires.1 c.has_session.result c.has_session.ensures c.if-not-has_session.false
 
 pub returns : goal.returns
 returns c =

@@ -19,13 +19,13 @@ pub returns-then-not-film_sound : goal.returns-then-not-film_sound
 returns-then-not-film_sound c =
     let b = c.args.b.now in
     let o = c.loop-i in
-    sym (o.inv ∙ film_not (film_sound (numbers_in b)) b c.args.n o.i _ c.film_place.ensures.0 c.loop-i-test.true c.requires.1 c.film_sound.result c.film_sound.ensures c.if-not-film_sound.true)
+    sym (o.invariant ∙ film_not (film_sound (numbers_in b)) b c.args.n o.i _ c.film_place.ensures.0 c.loop-i-test.true c.requires.1 c.film_sound.result c.film_sound.ensures c.if-not-film_sound.true)
 
 pub loop-i-preserved : goal.loop-i-preserved
 loop-i-preserved c =
     let b = c.args.b.now in
     let o = c.loop-i in
-    o.inv ∙ film_on (film_sound (numbers_in b)) b c.args.n o.i _ c.film_place.ensures.0 c.loop-i-test.true c.requires.1 c.film_sound.result c.film_sound.ensures c.if-not-film_sound.false
+    o.invariant ∙ film_on (film_sound (numbers_in b)) b c.args.n o.i _ c.film_place.ensures.0 c.loop-i-test.true c.requires.1 c.film_sound.result c.film_sound.ensures c.if-not-film_sound.false
 
 pub returns : goal.returns
 returns c =

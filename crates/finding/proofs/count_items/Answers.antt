@@ -20,21 +20,21 @@ returns-in-Here c =
 pub overflow_add-count : goal.overflow_add-count
 overflow_add-count c =
     let o = c.loop-reading in
-    let b = item_past _ _ _ o.inv.0 _ _ (sym c.item-reading.ensures.0 ∙ c.in-Past.is) in
+    let b = item_past _ _ _ o.invariant.0 _ _ (sym c.item-reading.ensures.0 ∙ c.in-Past.is) in
     omega arith
 
 pub loop-reading-smaller : goal.loop-reading-smaller
 loop-reading-smaller c =
     let o = c.loop-reading in
-    let b = item_past _ _ _ o.inv.0 _ _ (sym c.item-reading.ensures.0 ∙ c.in-Past.is) in
+    let b = item_past _ _ _ o.invariant.0 _ _ (sym c.item-reading.ensures.0 ∙ c.in-Past.is) in
     omega arith
 
 pub loop-reading-preserved : goal.loop-reading-preserved
 loop-reading-preserved c =
     let o = c.loop-reading in
     let e = sym c.item-reading.ensures.0 ∙ c.in-Past.is in
-    let b = item_past _ _ _ o.inv.0 _ _ e in
-    let l = ap length (items_of_more _ _ _ o.inv.0 (sym c.closing-close.ensures ∙ c.in_default.is) e) in
+    let b = item_past _ _ _ o.invariant.0 _ _ e in
+    let l = ap length (items_of_more _ _ _ o.invariant.0 (sym c.closing-close.ensures ∙ c.in_default.is) e) in
     (b.1, omega arith, omega arith)
 
 pub returns-in-Refused : goal.returns-in-Refused

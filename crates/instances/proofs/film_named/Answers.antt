@@ -19,7 +19,7 @@ returns-then-is_name c =
     let b = c.args.b.now in
     let o = c.loop-i in
     let h = c.loop-i-test.true in
-    place_here _ _ _ o.i o.inv.2 o.inv.3 no_film _ (film_there b c.requires.1 o.i no_film (search rules)) h
+    place_here _ _ _ o.i o.invariant.2 o.invariant.3 no_film _ (film_there b c.requires.1 o.i no_film (search rules)) h
     (ap (λ name. same c.args.uid.now (uid_of (numbers_in b) name)) (film_name b _) ∙ sym c.is_name.ensures ∙ c.if-is_name.true)
 
 pub loop-i-preserved : goal.loop-i-preserved
@@ -28,9 +28,9 @@ loop-i-preserved c =
     let o = c.loop-i in
     let h = c.loop-i-test.true in (
       search rules,
-      o.inv.1,
-      o.inv.2,
-      place_on _ _ _ o.i o.inv.2 o.inv.3 no_film _ (film_there b c.requires.1 o.i no_film (search rules)) h
+      o.invariant.1,
+      o.invariant.2,
+      place_on _ _ _ o.i o.invariant.2 o.invariant.3 no_film _ (film_there b c.requires.1 o.i no_film (search rules)) h
           (ap (λ name. same c.args.uid.now (uid_of (numbers_in b) name)) (film_name b _) ∙ sym c.is_name.ensures ∙ c.if-is_name.false),
     )
 

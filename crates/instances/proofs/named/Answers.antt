@@ -51,8 +51,8 @@ returns-then-film-count c =
     let b = c.args.b.now in
     let other = sym c.is_session.ensures ∙ c.if-is_session.false in
     let long = counted c c c.wide-count.ensures.0 in
-    let inside : c.film_named_lem.result < length (films_of (shelf_in b)) = omega (arith, long, c.if-film-count.true) in
-    (names_film (core_in b) (numbers_in b) (session_in b) (shelf_in b) (core_numbers b) (core_session b) (core_shelf b) c.args.uid.now other _ c.film_named_lem.ensures inside, rw (core_shelf b) inside)
+    let inside : c.film_named-film.result < length (films_of (shelf_in b)) = omega (arith, long, c.if-film-count.true) in
+    (names_film (core_in b) (numbers_in b) (session_in b) (shelf_in b) (core_numbers b) (core_session b) (core_shelf b) c.args.uid.now other _ c.film_named-film.ensures inside, rw (core_shelf b) inside)
 
 pub film_with_box-other-requires : goal.film_with_box-other-requires
 film_with_box-other-requires c = (c.requires.0, few c)
@@ -62,7 +62,7 @@ returns-then-count-other c =
     let b = c.args.b.now in
     let other = sym c.is_session.ensures ∙ c.if-is_session.false in
     let long = counted c c c.wide-count.ensures.0 in (
-      names_nobody (core_in b) (numbers_in b) (session_in b) (shelf_in b) (core_numbers b) (core_session b) (core_shelf b) c.args.uid.now other (omega (arith, long, c.film_named_lem.ensures, c.if-film-count.false))
+      names_nobody (core_in b) (numbers_in b) (session_in b) (shelf_in b) (core_numbers b) (core_session b) (core_shelf b) c.args.uid.now other (omega (arith, long, c.film_named-film.ensures, c.if-film-count.false))
           _ c.made_serial-serial.ensures (fit c) (omega (arith, long, c.film_with_box-other.ensures, c.if-count-other.true)),
       tt,
     )
@@ -73,7 +73,7 @@ overflow_sub-result c =
     let other = sym c.is_session.ensures ∙ c.if-is_session.false in
     let long = counted c c c.wide-count.ensures.0 in
     let first = first_here c c c.film_with_box-other.result _ c.wide-count.ensures.0 c.if-count-other.false c.first_at-first.ensures.0 in
-    let from = box_from (core_in b) (numbers_in b) (session_in b) (shelf_in b) (core_numbers b) (core_session b) (core_shelf b) c.args.uid.now other (omega (arith, long, c.film_named_lem.ensures, c.if-film-count.false))
+    let from = box_from (core_in b) (numbers_in b) (session_in b) (shelf_in b) (core_numbers b) (core_session b) (core_shelf b) c.args.uid.now other (omega (arith, long, c.film_named-film.ensures, c.if-film-count.false))
     _ c.made_serial-serial.ensures (fit c) _ c.film_with_box-other.ensures (omega (arith, long, c.if-count-other.false)) in
     omega (arith, first, from)
 
@@ -85,11 +85,20 @@ returns c =
     let i = c.film_with_box-other.result in
     let serial = c.made_serial-serial.result in
     let first = first_here c c i _ c.wide-count.ensures.0 c.if-count-other.false c.first_at-first.ensures.0 in
-    let none : length (films_of (shelf_in b)) ≤ c.film_named_lem.result = omega (arith, long, c.if-film-count.false) in
-    let unnamed = rw c.film_named_lem.ensures at none in
+    let none : length (films_of (shelf_in b)) ≤ c.film_named-film.result = omega (arith, long, c.if-film-count.false) in
+    let unnamed = rw c.film_named-film.ensures at none in
     let inside : i < length (films_of (shelf_in b)) = omega (arith, long, c.if-count-other.false) in
     let its = names_box (core_in b) (numbers_in b) (session_in b) (shelf_in b) (core_numbers b) (core_session b) (core_shelf b) c.args.uid.now other unnamed
     serial c.made_serial-serial.ensures (fit c) i c.film_with_box-other.ensures inside in
     let there = box_there (core_in b) (numbers_in b) (session_in b) (shelf_in b) (core_numbers b) (core_session b) (core_shelf b) c.args.uid.now other unnamed
     serial c.made_serial-serial.ensures (fit c) i c.film_with_box-other.ensures inside in
     (ap (λ (n : ℕ). TheBox i (serial - n)) first ∙ its, rw (core_shelf b, first) (inside, there))
+
+pub overflow_mul-other : goal.overflow_mul-other
+overflow_mul-other c = omega (arith, among c)
+
+pub overflow_add-other : goal.overflow_add-other
+overflow_add-other c = omega (arith, among c)
+
+pub first_at-first-requires : goal.first_at-first-requires
+first_at-first-requires c = omega (arith, among c)

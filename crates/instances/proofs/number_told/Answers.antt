@@ -10,7 +10,7 @@ loop-i-init c = (search rules, search rules, refl)
 pub loop-i-preserved : goal.loop-i-preserved
 loop-i-preserved c =
     let o = c.loop-i in
-    (search rules, search rules, told_turn c.args.s.now o.i o.v _ (search rules) c.wide.ensures.0 o.inv.2)
+    (search rules, search rules, told_turn c.args.s.now o.i o.v _ (search rules) c.wide.ensures.0 o.invariant.2)
 
 pub returns : goal.returns
 returns c =

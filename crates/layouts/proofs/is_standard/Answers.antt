@@ -1,5 +1,4 @@
 use mathlib.Core.Path.{sym, ◌∙◌}
-use borrow.Author.Tests.{not-true, not-false}
 use Rattle.rules.specs.Text.{chars}
 use Rattle.layouts.proofs.Laws.{standard_short, standard_other, standard_columns, standard_comma, standard_rows}
 use Rattle.layouts.proofs.is_standard.Goals as goal
@@ -11,21 +10,21 @@ pub returns-then-not-same_bytes : goal.returns-then-not-same_bytes
 unfolding chars
 returns-then-not-same_bytes c =
     let word = c.same_bytes in
-    standard_other _ c.if-t-ne12.false (sym word.ensures ∙ not-true word.result c.if-not-same_bytes.true)
+    standard_other _ c.if-t-ne12.false (sym word.ensures ∙ c.if-not-same_bytes.true)
 
 pub returns-then-not-one_to_six : goal.returns-then-not-one_to_six
 unfolding chars
 returns-then-not-one_to_six c =
     let word = c.same_bytes in
     let columns = c.one_to_six in
-    standard_columns _ c.if-t-ne12.false (sym word.ensures ∙ not-false word.result c.if-not-same_bytes.false) (sym columns.ensures ∙ not-true columns.result c.if-not-one_to_six.true)
+    standard_columns _ c.if-t-ne12.false (sym word.ensures ∙ c.if-not-same_bytes.false) (sym columns.ensures ∙ c.if-not-one_to_six.true)
 
 pub returns-then-t-ne44 : goal.returns-then-t-ne44
 unfolding chars
 returns-then-t-ne44 c =
     let word = c.same_bytes in
     let columns = c.one_to_six in
-    standard_comma _ c.if-t-ne12.false (sym word.ensures ∙ not-false word.result c.if-not-same_bytes.false) (sym columns.ensures ∙ not-false columns.result c.if-not-one_to_six.false) c.if-t-ne44.true
+    standard_comma _ c.if-t-ne12.false (sym word.ensures ∙ c.if-not-same_bytes.false) (sym columns.ensures ∙ c.if-not-one_to_six.false) c.if-t-ne44.true
 
 pub returns : goal.returns
 unfolding chars
@@ -33,4 +32,4 @@ returns c =
     let word = c.same_bytes in
     let columns = c.one_to_six in
     c.one_to_six-2.ensures
-    ∙ standard_rows _ c.if-t-ne12.false (sym word.ensures ∙ not-false word.result c.if-not-same_bytes.false) (sym columns.ensures ∙ not-false columns.result c.if-not-one_to_six.false) c.if-t-ne44.false
+    ∙ standard_rows _ c.if-t-ne12.false (sym word.ensures ∙ c.if-not-same_bytes.false) (sym columns.ensures ∙ c.if-not-one_to_six.false) c.if-t-ne44.false

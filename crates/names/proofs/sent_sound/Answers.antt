@@ -1,6 +1,5 @@
 use Prim.Native.Nat.{◌+◌}
 use native.Mathlib.Omega.{arith}
-use borrow.Author.Tests.{not-true, not-false}
 use Rattle.choice.proofs.Picks.{both_fails}
 use Rattle.records.specs.Places.{numbers_in}
 use Rattle.names.proofs.InPlace.{sent_none, sent_long, sent_told}
@@ -18,7 +17,7 @@ returns-then-used-gt-TEXT c = sent_long (numbers_in c.args.b.now) c.args.b.now c
 pub returns-then-not-is_uid : goal.returns-then-not-is_uid
 returns-then-not-is_uid c =
     sent_told (numbers_in c.args.b.now) c.args.b.now c.args.p c.requires.1 _ c.if-used-lt1.false c.if-used-gt-TEXT.false
-    (simp (← c.is_uid.ensures, not-true c.is_uid.result c.if-not-is_uid.true))
+    (simp (← c.is_uid.ensures, c.if-not-is_uid.true))
 
 pub returns-then-begins_with : goal.returns-then-begins_with
 returns-then-begins_with c =
@@ -28,4 +27,4 @@ returns-then-begins_with c =
 pub returns : goal.returns
 returns c =
     sent_told (numbers_in c.args.b.now) c.args.b.now c.args.p c.requires.1 _ c.if-used-lt1.false c.if-used-gt-TEXT.false
-    (simp (← c.is_uid.ensures, not-false c.is_uid.result c.if-not-is_uid.false, ← c.root_in.ensures, ← c.begins_with.ensures, c.if-begins_with.false, ← c.zeros_in.ensures))
+    (simp (← c.is_uid.ensures, c.if-not-is_uid.false, ← c.root_in.ensures, ← c.begins_with.ensures, c.if-begins_with.false, ← c.zeros_in.ensures))

@@ -40,3 +40,6 @@ returns c =
     let p = c.requires in
     let l = listing_of a.d.now a.syntax in
     c.box_with.ensures ∙ ap (box_with a.number l) (c.image_box_at-old.ensures ∙ box_read a.b.now p.1 a.i p.2 a.j p.3)
+
+pub box_with-requires : goal.box_with-requires
+box_with-requires c = (c.requires.4, c.requires.5)

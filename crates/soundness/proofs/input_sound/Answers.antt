@@ -1,5 +1,5 @@
 use native.Mathlib.Omega.{arith}
-use borrow.Author.Tests.{le-leb, lt-leb, not-true, not-false}
+use borrow.Author.Tests.{le-leb, lt-leb}
 use Rattle.rules.specs.Layout.{opened_format, input_format}
 use Rattle.rules.specs.Lists.{every}
 use Rattle.rules.specs.Sound.{input_sound}
@@ -26,11 +26,11 @@ unfolding opened_format input_format
 returns-then-not-zeros_in c =
     input_told c.args.b.now c.requires c.u16_at-used.ensures.0 c.if-used-gt-COMMAND.false
     (told_most _ _ _ c.last_phase.ensures c.if-last_phase-b.false)
-    (simp (← c.zeros_in.ensures, not-true c.zeros_in.result c.if-not-zeros_in.true))
+    (simp (← c.zeros_in.ensures, c.if-not-zeros_in.true))
 
 pub returns : goal.returns
 unfolding opened_format input_format
 returns c =
     input_told c.args.b.now c.requires c.u16_at-used.ensures.0 c.if-used-gt-COMMAND.false
     (told_most _ _ _ c.last_phase.ensures c.if-last_phase-b.false)
-    (simp (← c.zeros_in.ensures, not-false c.zeros_in.result c.if-not-zeros_in.false, ← c.phase_sound.ensures))
+    (simp (← c.zeros_in.ensures, c.if-not-zeros_in.false, ← c.phase_sound.ensures))

@@ -20,12 +20,12 @@ returns-then-s-i-gt-NINE c =
 pub returns-then-most-v : goal.returns-then-most-v
 returns-then-most-v c =
     let o = c.loop-i in
-    (sym (o.inv.2 ∙ counted_turn _ o.v _ o.i c.loop-i-test.true c.if-s-i-lt-ZERO.false c.if-s-i-gt-NINE.false ∙ counted_over _ _ _ c.if-most-v.true), search rules)
+    (sym (o.invariant.2 ∙ counted_turn _ o.v _ o.i c.loop-i-test.true c.if-s-i-lt-ZERO.false c.if-s-i-gt-NINE.false ∙ counted_over _ _ _ c.if-most-v.true), search rules)
 
 pub loop-i-preserved : goal.loop-i-preserved
 loop-i-preserved c =
     let o = c.loop-i in
-    (search rules, c.if-most-v.false, o.inv.2 ∙ counted_turn _ o.v _ o.i c.loop-i-test.true c.if-s-i-lt-ZERO.false c.if-s-i-gt-NINE.false)
+    (search rules, c.if-most-v.false, o.invariant.2 ∙ counted_turn _ o.v _ o.i c.loop-i-test.true c.if-s-i-lt-ZERO.false c.if-s-i-gt-NINE.false)
 
 pub returns : goal.returns
 returns c = let o = c.loop-i in

@@ -21,12 +21,12 @@ returns-then-s-i-gt126 c =
 pub returns-then-s-i-eq92 : goal.returns-then-s-i-eq92
 returns-then-s-i-eq92 c =
     let o = c.loop-i in
-    sym (o.inv.1 ∙ label_turn _ o.i c.loop-i-test.true ∙ rw (le-leb 0x20 _ c.if-s-i-lt32.false, le-leb _ 0x7E c.if-s-i-gt126.false, eq-eqb _ 0x5C c.if-s-i-eq92.true))
+    sym (o.invariant.1 ∙ label_turn _ o.i c.loop-i-test.true ∙ rw (le-leb 0x20 _ c.if-s-i-lt32.false, le-leb _ 0x7E c.if-s-i-gt126.false, eq-eqb _ 0x5C c.if-s-i-eq92.true))
 
 pub loop-i-preserved : goal.loop-i-preserved
 loop-i-preserved c =
     let o = c.loop-i in
-    (search rules, o.inv.1 ∙ label_turn _ o.i c.loop-i-test.true ∙ rw (le-leb 0x20 _ c.if-s-i-lt32.false, le-leb _ 0x7E c.if-s-i-gt126.false, ne_eqb _ 0x5C c.if-s-i-eq92.false))
+    (search rules, o.invariant.1 ∙ label_turn _ o.i c.loop-i-test.true ∙ rw (le-leb 0x20 _ c.if-s-i-lt32.false, le-leb _ 0x7E c.if-s-i-gt126.false, ne_eqb _ 0x5C c.if-s-i-eq92.false))
 
 pub returns : goal.returns
 returns c = sym (c.loop-i.invariant.1 ∙ label_end _ c.loop-i.i c.loop-i-test.false)

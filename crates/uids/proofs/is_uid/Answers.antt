@@ -3,7 +3,7 @@ use mathlib.Core.Path.{◌≡◌, refl, sym, ap, ◌∙◌}
 use mathlib.Core.Logic.{⊎_elim}
 use native.Mathlib.Omega.{arith}
 use lib.ListN.{length}
-use borrow.Author.Tests.{le-leb, lt-leb, not-true, not-false}
+use borrow.Author.Tests.{le-leb, lt-leb, not-false}
 use Rattle.octets.specs.Octets.{part}
 use Rattle.uids.specs.Uids.{component, is_uid}
 use Rattle.uids.proofs.Turns.{components_dot, components_on, components_end}
@@ -22,7 +22,7 @@ unfolding is_uid
 returns-then-not-is_component c =
     let o = c.loop-i in
     let f = c.is_component in
-    sym (rw (le-leb _ _ c.if-n-gt64.false) (o.inv.2 ∙ components_dot _ o.from o.i c.loop-i-test.true c.if-s-i-eq-DOT.true ∙ rw (← f.ensures, not-true f.result c.if-not-is_component.true)))
+    sym (rw (le-leb _ _ c.if-n-gt64.false) (o.invariant.2 ∙ components_dot _ o.from o.i c.loop-i-test.true c.if-s-i-eq-DOT.true ∙ rw (← f.ensures, c.if-not-is_component.true)))
 
 pub loop-i-preserved : goal.loop-i-preserved
 loop-i-preserved c = let o = c.loop-i in

@@ -1,0 +1,12 @@
+use Rattle.values.proofs.Turns.{codes}
+use borrow.Author.Rules.{rules}
+use Rattle.values.proofs.destination_in.Goals as goal
+
+pub returns-then-same_bytes : goal.returns-then-same_bytes
+returns-then-same_bytes c = search (codes, rules)
+
+pub returns-then-same_bytes-2 : goal.returns-then-same_bytes-2
+returns-then-same_bytes-2 c = search (codes, rules)
+
+pub returns : goal.returns
+returns c = search (codes, rules)

@@ -1,0 +1,18 @@
+use Rattle.values.proofs.Turns.{codes}
+use borrow.Author.Rules.{rules}
+use Rattle.values.proofs.magnification_in.Goals as goal
+
+pub returns-then-same_bytes : goal.returns-then-same_bytes
+returns-then-same_bytes c = search (codes, rules)
+
+pub returns-then-same_bytes-2 : goal.returns-then-same_bytes-2
+returns-then-same_bytes-2 c = search (codes, rules)
+
+pub returns-then-same_bytes-3 : goal.returns-then-same_bytes-3
+returns-then-same_bytes-3 c = search (codes, rules)
+
+pub returns-then-same_bytes-4 : goal.returns-then-same_bytes-4
+returns-then-same_bytes-4 c = search (codes, rules)
+
+pub returns : goal.returns
+returns c = search (codes, rules)
