@@ -5,7 +5,7 @@ use mathlib.Core.Path.{◌≡◌, ap, ◌∙◌}
 use mathlib.Core.Bool as bool
 use mathlib.Core.Bool.{Bool, true, false}
 use mathlib.Core.List.{List}
-use borrow.Author.Tests.{not-true, not-false}
+
 use Rattle.choice.specs.Rules.{first_broken}
 use Rattle.headers.specs.declared.Part.{Part}
 use Rattle.rules.specs.declared.Operation.{Operation}
@@ -36,17 +36,17 @@ module _ (c : List ℕ) (came : Came) (o : Operation) (p : Part) (uid : List ℕ
   class_unknown e = rw (← asked, ← told-unknown, e)
 
   module _ (known : unknown ≡ false) (offered : Bool) (told-offered : offered ≡ offers class o) where
-    pub not_offered : bool.not offered ≡ true → Answers 0x0211
+    pub not_offered : offered ≡ false → Answers 0x0211
     unfolding general_rules
-    not_offered e = rw (← asked, ← told-unknown, known, ← told-offered, not-true offered e)
+    not_offered e = rw (← asked, ← told-unknown, known, ← told-offered, e)
 
-    module _ (is-offered : bool.not offered ≡ false) (long : Bool) (told-long : long ≡ is_too_long came) where
+    module _ (is-offered : offered ≡ true) (long : Bool) (told-long : long ≡ is_too_long came) where
       pub too_long : long ≡ true → Answers 0x0213
       unfolding general_rules
-      too_long e = rw (← asked, ← told-unknown, known, ← told-offered, not-false offered is-offered, ← told-long, e)
+      too_long e = rw (← asked, ← told-unknown, known, ← told-offered, is-offered, ← told-long, e)
 
       pub unbroken : long ≡ false → Answers 0
       unfolding general_rules
-      unbroken e = rw (← asked, ← told-unknown, known, ← told-offered, not-false offered is-offered, ← told-long, e)
+      unbroken e = rw (← asked, ← told-unknown, known, ← told-offered, is-offered, ← told-long, e)
 
 pub ruleset asked_by = (class_unknown, not_offered, too_long, unbroken)

@@ -5,7 +5,7 @@ use mathlib.Core.Path.{◌≡◌}
 use mathlib.Core.Bool as bool
 use mathlib.Core.Bool.{Bool, true, false}
 use mathlib.Core.List.{List}
-use borrow.Author.Tests.{eq-eqb, ne_eqb, not-true, not-false}
+use borrow.Author.Tests.{eq-eqb, ne_eqb}
 use Rattle.choice.specs.Rules.{first_broken}
 use Rattle.uids.specs.Uids.{is_uid, begins_with}
 use Rattle.headers.specs.declared.Part.{Part}
@@ -27,23 +27,23 @@ module _ (b c : List ℕ) (sent : Part) where
   none_sent e = rw (eq-eqb _ _ e)
 
   module _ (some : size sent ≡ 0 → ⊥) (uid : List ℕ) (told-uid : uid ≡ uid_at c sent) (right : Bool) (told-right : right ≡ is_uid uid) where
-    pub wrong_sent : bool.not right ≡ true → AnswersSent 0x0117
+    pub wrong_sent : right ≡ false → AnswersSent 0x0117
     unfolding create_rules
-    wrong_sent e = rw (ne_eqb _ _ some, ← told-uid, ← told-right, not-true right e)
+    wrong_sent e = rw (ne_eqb _ _ some, ← told-uid, ← told-right, e)
 
-    module _ (is_right : bool.not right ≡ false) (rooted : Bool) (told-rooted : rooted ≡ begins_with (root_of (numbers_in b)) uid) where
+    module _ (is_right : right ≡ true) (rooted : Bool) (told-rooted : rooted ≡ begins_with (root_of (numbers_in b)) uid) where
       pub rooted_sent : rooted ≡ true → AnswersSent 0x0117
       unfolding create_rules
-      rooted_sent e = rw (ne_eqb _ _ some, ← told-uid, ← told-right, not-false right is_right, core_numbers b, ← told-rooted, e)
+      rooted_sent e = rw (ne_eqb _ _ some, ← told-uid, ← told-right, is_right, core_numbers b, ← told-rooted, e)
 
       module _ (free : rooted ≡ false) (whom : Instance) (told-whom : whom ≡ named (core_in b) uid) (new : Bool) (told-new : new ≡ is_nobody whom) where
-        pub taken_sent : bool.not new ≡ true → AnswersSent 0x0111
+        pub taken_sent : new ≡ false → AnswersSent 0x0111
         unfolding create_rules
-        taken_sent e = rw (ne_eqb _ _ some, ← told-uid, ← told-right, not-false right is_right, core_numbers b, ← told-rooted, free, ← told-whom, ← told-new, not-true new e)
+        taken_sent e = rw (ne_eqb _ _ some, ← told-uid, ← told-right, is_right, core_numbers b, ← told-rooted, free, ← told-whom, ← told-new, e)
 
-        pub new_sent : bool.not new ≡ false → AnswersSent 0
+        pub new_sent : new ≡ true → AnswersSent 0
         unfolding create_rules
-        new_sent e = rw (ne_eqb _ _ some, ← told-uid, ← told-right, not-false right is_right, core_numbers b, ← told-rooted, free, ← told-whom, ← told-new, not-false new e)
+        new_sent e = rw (ne_eqb _ _ some, ← told-uid, ← told-right, is_right, core_numbers b, ← told-rooted, free, ← told-whom, ← told-new, e)
 
 pub ruleset sent-by = (none_sent, wrong_sent, rooted_sent, taken_sent, new_sent)
 
@@ -57,12 +57,12 @@ module _ (k : Core) (c : List ℕ) (class instance : Part) (uid : List ℕ) (who
   nobody_asked e = rw (← told-uid, ← told-whom, ← told-missing, e)
 
   module _ (there : missing ≡ false) (class_uid : List ℕ) (told-class-uid : class_uid ≡ uid_at c class) (kind : Class) (told-kind : kind ≡ class_of class_uid) (fits : Bool) (told-fits : fits ≡ of_class kind whom) where
-    pub other_asked : bool.not fits ≡ true → AnswersAsked 0x0119
+    pub other_asked : fits ≡ false → AnswersAsked 0x0119
     unfolding target_rules
-    other_asked e = rw (← told-uid, ← told-whom, ← told-missing, there, ← told-class-uid, ← told-kind, ← told-fits, not-true fits e)
+    other_asked e = rw (← told-uid, ← told-whom, ← told-missing, there, ← told-class-uid, ← told-kind, ← told-fits, e)
 
-    pub one_asked : bool.not fits ≡ false → AnswersAsked 0
+    pub one_asked : fits ≡ true → AnswersAsked 0
     unfolding target_rules
-    one_asked e = rw (← told-uid, ← told-whom, ← told-missing, there, ← told-class-uid, ← told-kind, ← told-fits, not-false fits e)
+    one_asked e = rw (← told-uid, ← told-whom, ← told-missing, there, ← told-class-uid, ← told-kind, ← told-fits, e)
 
 pub ruleset target-by = (nobody_asked, other_asked, one_asked)

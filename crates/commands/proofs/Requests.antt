@@ -8,7 +8,7 @@ use mathlib.Core.List.{List}
 use native.Mathlib.Omega.{arith}
 use lib.Dec.{eqb, ltb}
 use lib.ListN.{length, get_or}
-use borrow.Author.Tests.{eq-eqb, ne_eqb, not-true, not-false}
+use borrow.Author.Tests.{eq-eqb, ne_eqb}
 use Rattle.octets.specs.Octets.{number_at}
 use Rattle.headers.specs.declared.Part.{Part}
 use Rattle.rules.specs.declared.Command.{Command}
@@ -28,41 +28,41 @@ module _ {c : List ℕ} {places : List Part} (held : Holds c places) where
 
   -- the numbers of every request
   module _ (f : Bool) (has-f : Sized f 3) where
-    pub field_lacks : bool.not f ≡ true → false ≡ has_numbers c
+    pub field_lacks : f ≡ false → false ≡ has_numbers c
     unfolding has_numbers slot_of
-    field_lacks h = simp (← (has-f ∙ held_size held 0x0000_0100 (omega arith)), not-true f h)
+    field_lacks h = simp (← (has-f ∙ held_size held 0x0000_0100 (omega arith)), h)
 
-    module _ (f-is : bool.not f ≡ false) (m : Bool) (has-m : Sized m 4) where
-      pub message_lacks : bool.not m ≡ true → false ≡ has_numbers c
+    module _ (f-is : f ≡ true) (m : Bool) (has-m : Sized m 4) where
+      pub message_lacks : m ≡ false → false ≡ has_numbers c
       unfolding has_numbers slot_of
-      message_lacks h = simp (← (has-f ∙ held_size held 0x0000_0100 (omega arith)), not-false f f-is, ← (has-m ∙ held_size held 0x0000_0110 (omega arith)), not-true m h)
+      message_lacks h = simp (← (has-f ∙ held_size held 0x0000_0100 (omega arith)), f-is, ← (has-m ∙ held_size held 0x0000_0110 (omega arith)), h)
 
-      module _ (m-is : bool.not m ≡ false) (d : Bool) (has-d : Sized d 5) where
-        pub type_lacks : bool.not d ≡ true → false ≡ has_numbers c
+      module _ (m-is : m ≡ true) (d : Bool) (has-d : Sized d 5) where
+        pub type_lacks : d ≡ false → false ≡ has_numbers c
         unfolding has_numbers slot_of
         type_lacks h =
-            simp (← (has-f ∙ held_size held 0x0000_0100 (omega arith)), not-false f f-is, ← (has-m ∙ held_size held 0x0000_0110 (omega arith)), not-false m m-is, ← (has-d ∙ held_size held 0x0000_0800 (omega arith)), not-true d h)
+            simp (← (has-f ∙ held_size held 0x0000_0100 (omega arith)), f-is, ← (has-m ∙ held_size held 0x0000_0110 (omega arith)), m-is, ← (has-d ∙ held_size held 0x0000_0800 (omega arith)), h)
 
-        pub field_decides : bool.not d ≡ false → (n : ℕ) → Read n 3 → ltb n 0x8000 ≡ has_numbers c
+        pub field_decides : d ≡ true → (n : ℕ) → Read n 3 → ltb n 0x8000 ≡ has_numbers c
         unfolding has_numbers slot_of
         field_decides h n e =
-            simp (← (has-f ∙ held_size held 0x0000_0100 (omega arith)), not-false f f-is, ← (has-m ∙ held_size held 0x0000_0110 (omega arith)), not-false m m-is, ← (has-d ∙ held_size held 0x0000_0800 (omega arith)), not-false d h, ← (e ∙ held_number held 0x0000_0100 (omega arith)))
+            simp (← (has-f ∙ held_size held 0x0000_0100 (omega arith)), f-is, ← (has-m ∙ held_size held 0x0000_0110 (omega arith)), m-is, ← (has-d ∙ held_size held 0x0000_0800 (omega arith)), h, ← (e ∙ held_number held 0x0000_0100 (omega arith)))
 
   -- an N-ACTION
   module _ (t : Bool) (has-t : t ≡ has_target c) where
-    pub target_lacks : bool.not t ≡ true → Unreadable ≡ action_in c
+    pub target_lacks : t ≡ false → Unreadable ≡ action_in c
     unfolding action_in
-    target_lacks h = simp (← has-t, not-true t h)
+    target_lacks h = simp (← has-t, h)
 
-    module _ (t-is : bool.not t ≡ false) (s : Bool) (has-s : Sized s 8) where
-      pub kind_lacks : bool.not s ≡ true → Unreadable ≡ action_in c
+    module _ (t-is : t ≡ true) (s : Bool) (has-s : Sized s 8) where
+      pub kind_lacks : s ≡ false → Unreadable ≡ action_in c
       unfolding action_in slot_of
-      kind_lacks h = simp (← has-t, not-false t t-is, ← (has-s ∙ held_size held 0x0000_1008 (omega arith)), not-true s h)
+      kind_lacks h = simp (← has-t, t-is, ← (has-s ∙ held_size held 0x0000_1008 (omega arith)), h)
 
-      pub action_known : bool.not s ≡ false → (n : ℕ) → Read n 8 → (r : Command) → r ≡ known_as c (Act (record { class = get_or places 2 no_part; instance = get_or places 7 no_part; kind = n })) → r ≡ action_in c
+      pub action_known : s ≡ true → (n : ℕ) → Read n 8 → (r : Command) → r ≡ known_as c (Act (record { class = get_or places 2 no_part; instance = get_or places 7 no_part; kind = n })) → r ≡ action_in c
       unfolding action_in known_as slot_of
       action_known h n e r k =
-          k ∙ simp (← has-t, not-false t t-is, ← (has-s ∙ held_size held 0x0000_1008 (omega arith)), not-false s h)
+          k ∙ simp (← has-t, t-is, ← (has-s ∙ held_size held 0x0000_1008 (omega arith)), h)
           (simp (← (e ∙ held_number held 0x0000_1008 (omega arith)), ← (held.each 0x0000_0003 (omega arith)), ← (held.each 0x0000_1001 (omega arith))))
 
   -- the request, by its field

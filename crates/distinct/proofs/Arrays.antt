@@ -8,7 +8,7 @@ use native.Mathlib.Numerals.{add-one}
 use native.Mathlib.Omega.{arith}
 use lib.ListN.{length, take, drop, length-take, drop_of_length-le}
 use lib.Seq.{drop-cons, get_or-take}
-use borrow.Author.Tests.{not-true, not-false}
+
 use Rattle.choice.specs.Pick.{both}
 use Rattle.choice.proofs.Picks.{both_fails, both_only}
 use Rattle.fields.specs.Format.{Format, read_all}
@@ -35,18 +35,18 @@ module _ {A : Type 0} (f : Format A) (b : List ℕ) (at n k i : ℕ) where
       turn = ap (every test) (next_read whole p e l h) ∙ rw d
 
       -- it passes: the next ones
-      pub read_on : not told ≡ false → every test (drop i (take k (read_all f b at n))) ≡ every test (drop (i + 1) (take k (read_all f b at n)))
-      read_on t = turn ∙ rw (not-false told t)
+      pub read_on : told ≡ true → every test (drop i (take k (read_all f b at n))) ≡ every test (drop (i + 1) (take k (read_all f b at n)))
+      read_on t = turn ∙ rw t
 
       -- it does not
-      pub read_not : not told ≡ true → every test (drop i (take k (read_all f b at n))) ≡ false
-      read_not t = turn ∙ rw (not-true told t)
+      pub read_not : told ≡ false → every test (drop i (take k (read_all f b at n))) ≡ false
+      read_not t = turn ∙ rw t
 
       -- the same where a flag says whether all passed so far
-      pub flag_on : (flag : Bool) → not told ≡ false → both flag (every test (drop i (take k (read_all f b at n)))) ≡ both flag (every test (drop (i + 1) (take k (read_all f b at n))))
+      pub flag_on : (flag : Bool) → told ≡ true → both flag (every test (drop i (take k (read_all f b at n)))) ≡ both flag (every test (drop (i + 1) (take k (read_all f b at n))))
       flag_on flag t = rw (read_on t)
 
-      pub flag_not : (flag : Bool) → not told ≡ true → both flag (every test (drop i (take k (read_all f b at n)))) ≡ false
+      pub flag_not : (flag : Bool) → told ≡ false → both flag (every test (drop i (take k (read_all f b at n)))) ≡ false
       flag_not flag t = rw (read_not t) (both_fails flag)
 
     pub read_end : k ≤ i → every test (drop i (take k (read_all f b at n))) ≡ true

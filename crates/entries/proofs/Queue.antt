@@ -31,11 +31,11 @@ entry_told b p next e t = t ∙ rw e
 -- a test of each entry
 module _ (test : Entry → Bool) (b : List ℕ) (n i : ℕ) where
   module _ (p : ℕ) (at : p ≡ entry_place i) (l : i < n) (h : n ≤ most_entries) (told : Bool) (e : told ≡ test (entry_format.read b p)) where
-    pub entry_on : not told ≡ false → every test (drop i (entries_in b n)) ≡ every test (drop (i + 1) (entries_in b n))
+    pub entry_on : told ≡ true → every test (drop i (entries_in b n)) ≡ every test (drop (i + 1) (entries_in b n))
     unfolding read_all queue_format entry_format picture_format name_format serial_format
     entry_on = read_on entry_format b (queue_place + 1) most_entries n i test refl p at l h told e
 
-    pub entry_not : not told ≡ true → every test (drop i (entries_in b n)) ≡ false
+    pub entry_not : told ≡ false → every test (drop i (entries_in b n)) ≡ false
     unfolding read_all queue_format entry_format picture_format name_format serial_format
     entry_not = read_not entry_format b (queue_place + 1) most_entries n i test refl p at l h told e
 

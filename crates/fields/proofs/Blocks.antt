@@ -27,10 +27,7 @@ unfolding write
 write_block a s at n e = rw (all_bytes a n (omega arith), take_all n a (omega arith))
 
 -- a copy out of a part of s
-pub copied_out : (s d x : List ℕ) (at : ℕ) → at + length d ≤ length s
-    → (let b = part s at (at + length d) in x ≡ take (length b) b ++ drop (length b) d)
-    → x ≡ (array (length d) byte).read s at
+pub copied_out : (s d x : List ℕ) (at : ℕ) → at + length d ≤ length s → x ≡ part s at (at + length d) → x ≡ (array (length d) byte).read s at
 copied_out s d x at h e =
     let k : at + length d - at ≡ length d = omega arith in
-    let l : length (take (length d) (drop at s)) ≡ length d = length-take-le (length d) (drop at s) (omega (arith, length-drop at s)) in
-    e ∙ rw (k, l, drop-length d, append-nil, take_all (length d) (take (length d) (drop at s)) (omega (arith, l))) (sym (all_read s at (length d) h))
+    e ∙ rw k (sym (all_read s at (length d) h))

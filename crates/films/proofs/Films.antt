@@ -48,11 +48,11 @@ film_told b p first count serial e d g t =
 -- a test of each film
 module _ (test : Film → Bool) (b : List ℕ) (n i : ℕ) where
   module _ (p : ℕ) (at : p ≡ film_place i) (l : i < n) (h : n ≤ most_films) (told : Bool) (e : told ≡ test (film_format.read b p)) where
-    pub film_on : bool.not told ≡ false → every test (drop i (films_in b n)) ≡ every test (drop (i + 1) (films_in b n))
+    pub film_on : told ≡ true → every test (drop i (films_in b n)) ≡ every test (drop (i + 1) (films_in b n))
     unfolding shelf_format film_format name_format serial_format layout_format box_format picture_format
     film_on = read_on film_format b (shelf_place + 1) most_films n i test (film_places b) p at l h told e
 
-    pub film_not : bool.not told ≡ true → every test (drop i (films_in b n)) ≡ false
+    pub film_not : told ≡ false → every test (drop i (films_in b n)) ≡ false
     unfolding shelf_format film_format name_format serial_format layout_format box_format picture_format
     film_not = read_not film_format b (shelf_place + 1) most_films n i test (film_places b) p at l h told e
 

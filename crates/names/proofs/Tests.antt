@@ -6,7 +6,7 @@ use mathlib.Core.Path.{◌≡◌, refl, sym, ◌∙◌}
 use mathlib.Core.Bool.{Bool, true, false, not}
 use mathlib.Core.List.{List, [], ◌∷◌}
 use lib.Dec.{leb}
-use borrow.Author.Tests.{lt-ltb, le-ltb, le-leb, lt-leb, eq-eqb, ne_eqb, not-true, not-false}
+use borrow.Author.Tests.{lt-ltb, le-ltb, le-leb, lt-leb, eq-eqb, ne_eqb}
 use Rattle.choice.proofs.Picks.{both_only}
 use Rattle.rules.specs.Lists.{every}
 
@@ -29,11 +29,11 @@ none_left test = refl
 
 -- what a function told
 module _ (told test : Bool) (e : told ≡ test) where
-  pub told_not : not told ≡ true → test ≡ false
-  told_not h = sym e ∙ not-true told h
+  pub told_not : told ≡ false → test ≡ false
+  told_not h = sym e ∙ h
 
-  pub told_is : not told ≡ false → test ≡ true
-  told_is h = sym e ∙ not-false told h
+  pub told_is : told ≡ true → test ≡ true
+  told_is h = sym e ∙ h
 
 -- a number that a function told
 module _ (a told b : ℕ) (e : told ≡ b) where

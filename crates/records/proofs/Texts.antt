@@ -20,7 +20,7 @@ module _ (b : List ℕ) (p n : ℕ) (h : p + n ≤ length b) where
       let t = take n (drop p b) in
       let l : length t ≡ n = length-take-le n (drop p b) (omega (arith, length-drop p b)) in
       let e : p + length t - p ≡ n = omega arith in
-      sym (subst (λ k. t ≡ (array k byte).read b p) l (copied_out b t t p (omega arith) (rw e (sym (take-append-drop (length t) t)))))
+      sym (subst (λ k. t ≡ (array k byte).read b p) l (copied_out b t t p (omega arith) (rw e)))
 
   pub text_front : (k : ℕ) → k ≤ n → take k ((array n byte).read b p) ≡ part b p (p + k)
   text_front k l =

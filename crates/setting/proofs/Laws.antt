@@ -8,7 +8,7 @@ use mathlib.Core.List.{List, [], ◌∷◌}
 use native.Mathlib.Omega.{arith}
 use lib.Dec.{eqb}
 use lib.ListN.{length, get_or}
-use borrow.Author.Tests.{eqb-true, eq-eqb, ne_eqb, not-true, not-false}
+use borrow.Author.Tests.{eqb-true, eq-eqb, ne_eqb}
 use Rattle.choice.specs.Pick.{pick, both}
 use Rattle.choice.specs.Rules.{Rule, ◌⇒◌, first_broken, numbered}
 use Rattle.choice.proofs.Picks.{clash, both_second}
@@ -119,15 +119,15 @@ module _ (k : Core) (i : ℕ) (d : List ℕ) (syntax : Syntax) (count : ℕ) (co
     fill : is_fill (image_in (listing_of d syntax)) ≡ test
     fill = fill_by d syntax image test read tested
 
-    pub nothing_fills : bool.not test ≡ true → Told 0
-    nothing_fills h = attributes_kept k i (listing_of d syntax) n own_first false (no_picture_left k.numbers) kept (fill ∙ not-true test h) refl
+    pub nothing_fills : test ≡ false → Told 0
+    nothing_fills h = attributes_kept k i (listing_of d syntax) n own_first false (no_picture_left k.numbers) kept (fill ∙ h) refl
 
-    module _ (fills : bool.not test ≡ false) (next : ℕ) (is : next ≡ k.numbers.picture) where
+    module _ (fills : test ≡ true) (next : ℕ) (is : next ≡ k.numbers.picture) where
       pub picture_lacks : next ≡ none_left → Told 0x0213
-      picture_lacks e = attributes_kept k i (listing_of d syntax) n own_first true true kept (fill ∙ not-false test fills) (eq-eqb k.numbers.picture none_left (sym is ∙ e))
+      picture_lacks e = attributes_kept k i (listing_of d syntax) n own_first true true kept (fill ∙ fills) (eq-eqb k.numbers.picture none_left (sym is ∙ e))
 
       pub picture_given : (next ≡ none_left → ⊥) → Told 0
-      picture_given e = attributes_kept k i (listing_of d syntax) n own_first true false kept (fill ∙ not-false test fills) (ne_eqb k.numbers.picture none_left (λ h. e (is ∙ h)))
+      picture_given e = attributes_kept k i (listing_of d syntax) n own_first true false kept (fill ∙ fills) (ne_eqb k.numbers.picture none_left (λ h. e (is ∙ h)))
 
 -- a film of a sound core has no more boxes than there are places
 pub boxes_few : (k : Core) (i : ℕ) → core_sound k ≡ true → i < length (films_of k.shelf) → box_count (film_at k i).layout ≤ 36

@@ -6,7 +6,7 @@ use mathlib.Core.Bool as bool
 use mathlib.Core.Bool.{Bool, true, false}
 use mathlib.Core.List.{List}
 use lib.ListN.{length}
-use borrow.Author.Tests.{lt-ltb, le-ltb, lt-leb, le-leb, not-true, not-false}
+use borrow.Author.Tests.{lt-ltb, le-ltb, lt-leb, le-leb}
 use Rattle.choice.specs.Rules.{first_broken}
 use Rattle.rules.specs.Layout.{records_size, unpack}
 use Rattle.rules.specs.Sound.{sound}
@@ -17,8 +17,8 @@ records_short b h = rw (lt-leb records_size (length b) h, lt-ltb (length b) reco
 
 -- what was told of their rules
 module _ (b : List ℕ) (t : Bool) (told : t ≡ sound (unpack b)) (long : records_size ≤ length b) where
-  pub records_unsound : bool.not t ≡ true → 1 ≡ first_broken (records_rules b)
-  records_unsound e = rw (le-leb records_size (length b) long, ← told, not-true t e)
+  pub records_unsound : t ≡ false → 1 ≡ first_broken (records_rules b)
+  records_unsound e = rw (le-leb records_size (length b) long, ← told, e)
 
-  pub records_right : bool.not t ≡ false → 0 ≡ first_broken (records_rules b)
-  records_right e = rw (le-leb records_size (length b) long, ← told, not-false t e, le-ltb (length b) records_size long)
+  pub records_right : t ≡ true → 0 ≡ first_broken (records_rules b)
+  records_right e = rw (le-leb records_size (length b) long, ← told, e, le-ltb (length b) records_size long)

@@ -19,13 +19,13 @@ pub returns-then-not-entry_sound : goal.returns-then-not-entry_sound
 returns-then-not-entry_sound c =
     let b = c.args.b.now in
     let o = c.loop-i in
-    sym (o.invariant ∙ entry_not (entry_sound (numbers_in b)) b c.args.n o.i _ c.entry_IsPlace.ensures.0 c.loop-i-test.true c.requires.1 c.entry_sound.result c.entry_sound.ensures c.if-not-entry_sound.true)
+    sym (o.invariant ∙ entry_not (entry_sound (numbers_in b)) b c.args.n o.i _ c.entry_place.ensures.0 c.loop-i-test.true c.requires.1 c.entry_sound.result c.entry_sound.ensures c.if-not-entry_sound.true)
 
 pub loop-i-preserved : goal.loop-i-preserved
 loop-i-preserved c =
     let b = c.args.b.now in
     let o = c.loop-i in
-    o.invariant ∙ entry_on (entry_sound (numbers_in b)) b c.args.n o.i _ c.entry_IsPlace.ensures.0 c.loop-i-test.true c.requires.1 c.entry_sound.result c.entry_sound.ensures c.if-not-entry_sound.false
+    o.invariant ∙ entry_on (entry_sound (numbers_in b)) b c.args.n o.i _ c.entry_place.ensures.0 c.loop-i-test.true c.requires.1 c.entry_sound.result c.entry_sound.ensures c.if-not-entry_sound.false
 
 pub returns : goal.returns
 returns c =

@@ -1,6 +1,5 @@
 use Prim.Native.Nat.{◌-◌}
 use mathlib.Core.Path.{refl, sym, ap, ◌∙◌}
-use mathlib.Core.Logic.{⊎_elim}
 use native.Mathlib.Omega.{arith}
 use lib.Dec.{ltb}
 use lib.Seq.{take_all}
@@ -11,6 +10,7 @@ use Rattle.rules.specs.Layout.{picture_format}
 use Rattle.rules.specs.Lists.{every}
 use Rattle.distinct.proofs.Arrays.{flag_on, flag_not, flag_end}
 use Rattle.entries.proofs.pictures_below.Goals as goal
+use Rattle.entries.proofs.pictures_below.Goals.{then-not-picture_below, else-not-picture_below}
 
 pub loop-i-init : goal.loop-i-init
 unfolding read_all
@@ -25,10 +25,10 @@ loop-i-preserved c =
     let a = c.args in
     let o = c.loop-i in
     let x = c.picture_below in
-    ⊎_elim
-    (λ w. o.invariant ∙ flag_not picture_format a.b.now a.p most_boxes most_boxes o.i (λ (x : Picture). ltb x.0 a.next) refl _ refl c.loop-i-test.true (omega arith) x.result x.ensures o.below w.0.taken ∙ rw w.1)
-    (λ w. o.invariant ∙ flag_on picture_format a.b.now a.p most_boxes most_boxes o.i (λ (x : Picture). ltb x.0 a.next) refl _ refl c.loop-i-test.true (omega arith) x.result x.ensures o.below w.0.left ∙ rw w.1)
-    c.if-not-picture_below.branch
+    elim c.if-not-picture_below.branch [
+      then-not-picture_below w ↦ o.invariant ∙ flag_not picture_format a.b.now a.p most_boxes most_boxes o.i (λ (x : Picture). ltb x.0 a.next) refl _ refl c.loop-i-test.true (omega arith) x.result x.ensures o.below w.if-not-picture_below.true ∙ rw w.below-is
+    | else-not-picture_below w ↦ o.invariant ∙ flag_on picture_format a.b.now a.p most_boxes most_boxes o.i (λ (x : Picture). ltb x.0 a.next) refl _ refl c.loop-i-test.true (omega arith) x.result x.ensures o.below w.if-not-picture_below.false ∙ rw w.below-is
+    ]
 
 pub returns : goal.returns
 returns c =

@@ -1,6 +1,5 @@
 use Prim.Native.Nat.{◌-◌}
 use mathlib.Core.Path.{refl, sym, ◌∙◌}
-use mathlib.Core.Logic.{⊎_elim}
 use Rattle.fields.specs.Format.{read_all}
 use Rattle.rules.specs.Bounds.{most_boxes}
 use Rattle.rules.specs.Layout.{picture_format, box_format}
@@ -8,6 +7,7 @@ use Rattle.rules.specs.Sound.{box_sound}
 use Rattle.records.specs.Places.{numbers_in}
 use Rattle.distinct.proofs.Arrays.{flag_on, flag_not, flag_end}
 use Rattle.films.proofs.boxes_sound.Goals as goal
+use Rattle.films.proofs.boxes_sound.Goals.{then-not-box_sound, else-not-box_sound}
 
 pub loop-i-init : goal.loop-i-init
 loop-i-init c = refl
@@ -19,10 +19,10 @@ loop-i-preserved c =
     let b = a.b.now in
     let o = c.loop-i in
     let x = c.box_sound in
-    ⊎_elim
-    (λ w. o.invariant ∙ flag_not box_format b a.p most_boxes a.boxes o.i (box_sound a.boxes (numbers_in b)) refl _ refl c.loop-i-test.true c.requires.1 x.result x.ensures o.sound w.0.taken ∙ rw w.1)
-    (λ w. o.invariant ∙ flag_on box_format b a.p most_boxes a.boxes o.i (box_sound a.boxes (numbers_in b)) refl _ refl c.loop-i-test.true c.requires.1 x.result x.ensures o.sound w.0.left ∙ rw w.1)
-    c.if-not-box_sound.branch
+    elim c.if-not-box_sound.branch [
+      then-not-box_sound w ↦ o.invariant ∙ flag_not box_format b a.p most_boxes a.boxes o.i (box_sound a.boxes (numbers_in b)) refl _ refl c.loop-i-test.true c.requires.1 x.result x.ensures o.sound w.if-not-box_sound.true ∙ rw w.sound-is
+    | else-not-box_sound w ↦ o.invariant ∙ flag_on box_format b a.p most_boxes a.boxes o.i (box_sound a.boxes (numbers_in b)) refl _ refl c.loop-i-test.true c.requires.1 x.result x.ensures o.sound w.if-not-box_sound.false ∙ rw w.sound-is
+    ]
 
 pub returns : goal.returns
 returns c =

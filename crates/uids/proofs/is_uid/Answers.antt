@@ -1,6 +1,5 @@
 use Prim.Native.Nat.{◌-◌}
 use mathlib.Core.Path.{◌≡◌, refl, sym, ap, ◌∙◌}
-use mathlib.Core.Logic.{⊎_elim}
 use native.Mathlib.Omega.{arith}
 use lib.ListN.{length}
 use borrow.Author.Tests.{le-leb, lt-leb, not-false}
@@ -9,6 +8,7 @@ use Rattle.uids.specs.Uids.{component, is_uid}
 use Rattle.uids.proofs.Turns.{components_dot, components_on, components_end}
 use borrow.Author.Rules.{rules}
 use Rattle.uids.proofs.is_uid.Goals as goal
+use Rattle.uids.proofs.is_uid.Goals.{then-s-i-eq-DOT+else-not-is_component, else-s-i-eq-DOT}
 
 pub returns-then-n-gt64 : goal.returns-then-n-gt64
 unfolding is_uid
@@ -27,10 +27,10 @@ returns-then-not-is_component c =
 pub loop-i-preserved : goal.loop-i-preserved
 loop-i-preserved c = let o = c.loop-i in
     let h = c.loop-i-test.true in
-    ⊎_elim
-    (λ w. (search rules, search rules, o.invariant.2 ∙ components_dot _ o.from o.i h w.0.taken ∙ rw (← w.2.ensures, not-false w.2.result w.3.left, w.4)))
-    (λ w. (search rules, search rules, o.invariant.2 ∙ components_on _ o.from o.i o.invariant.0 h w.0.left ∙ rw w.1))
-    c.if-s-i-eq-DOT.branch
+    elim c.if-s-i-eq-DOT.branch [
+      then-s-i-eq-DOT+else-not-is_component w ↦ (search rules, search rules, o.invariant.2 ∙ components_dot _ o.from o.i h w.if-s-i-eq-DOT.true ∙ rw (← w.is_component.ensures, w.if-not-is_component.false, w.from-is))
+    | else-s-i-eq-DOT w ↦ (search rules, search rules, o.invariant.2 ∙ components_on _ o.from o.i o.invariant.0 h w.if-s-i-eq-DOT.false ∙ rw w.from-is)
+    ]
 
 pub returns : goal.returns
 unfolding is_uid
