@@ -7,7 +7,8 @@ ghost use Rattle.std.specs.Prelude.{◌≤◌, length};
 
 use elements::{Found, Items, Read};
 use headers::{Inside, Part, Scope, Syntax};
-use libc::STDOUT_FILENO;
+use std::rt::Files;
+use std::{env, fs, io};
 
 const NAMED: [usize; 35] = [
     0x0000_0000,
@@ -47,35 +48,33 @@ const NAMED: [usize; 35] = [
     0x7FE0_0010,
 ];
 
-fn print(text: &[u8]) {
-    io::write_all(STDOUT_FILENO, text);
+fn print(rt: &impl Print, text: &[u8]) -> io::Result<()> {
+    rt.write_all(text)
 }
 
-fn print_count(n: usize) {
-    print(b" items ");
-    io::print_decimal(STDOUT_FILENO, n as u64);
-    print(b"\n");
+fn print_count(rt: &impl Print, n: usize) -> io::Result<()> {
+    println!(rt; " items {n}")
 }
 
 // A tag, after that of the sequence whose item it stands in, unless that is 0.
-fn print_tag(over: usize, tag: usize) {
+fn print_tag(rt: &impl Print, over: usize, tag: usize) -> io::Result<()> {
     if over != 0 {
-        io::print_hex(STDOUT_FILENO, over as u64, 8);
-        print(b".");
+        print!(rt; "{over:08x}.")?;
     }
-    io::print_hex(STDOUT_FILENO, tag as u64, 8);
+    print!(rt; "{tag:08x}")
 }
 
-fn print_byte(b: u8) {
-    io::print_hex(STDOUT_FILENO, b as u64, 2);
+fn print_byte(rt: &impl Print, b: u8) -> io::Result<()> {
+    print!(rt; "{b:02x}")
 }
 
-fn print_bytes(s: &[u8]) {
+fn print_bytes(rt: &impl Print, s: &[u8]) -> io::Result<()> {
     let mut i = 0;
     while i < s.len() {
-        print_byte(s[i]);
+        print_byte(rt, s[i])?;
         i += 1;
     }
+    Ok(())
 }
 
 // The part where it lies in the slice, else nothing, which the expected output then shows.
@@ -112,7 +111,7 @@ fn scope_in(s: &[u8], syntax: Syntax, room: usize, part: Inside) -> Scope
 }
 
 // A value's bytes, or a mark where it has none.
-fn print_value(s: &[u8], value: Part) {
+fn print_value(rt: &impl Print, s: &[u8], value: Part) -> io::Result<()> {
     let part = kept(
         s,
         Inside {
@@ -123,98 +122,123 @@ fn print_value(s: &[u8], value: Part) {
     );
     let from = part.from;
     let stop = part.stop;
-    print(b" ");
+    print(rt, b" ")?;
     if from == stop {
-        print(b"-");
+        print(rt, b"-")?;
     }
-    print_bytes(&s[from..stop]);
-    print(b"\n");
+    print_bytes(rt, &s[from..stop])?;
+    print(rt, b"\n")
 }
 
 // How many items a sequence inside an item has.
-fn print_inner_items(s: &[u8], syntax: Syntax, sequence: Inside) {
+fn print_inner_items(
+    rt: &impl Print,
+    s: &[u8],
+    syntax: Syntax,
+    sequence: Inside,
+) -> io::Result<()> {
     match finding::items_in(s, scope_in(s, syntax, 2, sequence)) {
-        Items::Empty => print_count(0),
-        Items::One(_) => print_count(1),
-        Items::Several(n) => print_count(n),
+        Items::Empty => print_count(rt, 0),
+        Items::One(_) => print_count(rt, 1),
+        Items::Several(n) => print_count(rt, n),
     }
 }
 
 // What the only item of the sequence `over` holds under a tag.
-fn print_inner(s: &[u8], syntax: Syntax, over: usize, item: Inside, tag: usize) {
+fn print_inner(
+    rt: &impl Print,
+    s: &[u8],
+    syntax: Syntax,
+    over: usize,
+    item: Inside,
+    tag: usize,
+) -> io::Result<()> {
     match finding::find(s, scope_in(s, syntax, 3, item), tag) {
-        Found::Missing => {}
+        Found::Missing => Ok(()),
         Found::Value(value) => {
-            print_tag(over, tag);
-            print_value(s, value);
+            print_tag(rt, over, tag)?;
+            print_value(rt, s, value)
         }
         Found::Sequence(sequence) => {
-            print_tag(over, tag);
-            print_inner_items(s, syntax, sequence);
+            print_tag(rt, over, tag)?;
+            print_inner_items(rt, s, syntax, sequence)
         }
     }
 }
 
-fn print_item(s: &[u8], syntax: Syntax, over: usize, item: Inside) {
+fn print_item(
+    rt: &impl Print,
+    s: &[u8],
+    syntax: Syntax,
+    over: usize,
+    item: Inside,
+) -> io::Result<()> {
     let mut i = 0;
     while i < 35 {
         let tag = NAMED[i];
-        print_inner(s, syntax, over, item, tag);
+        print_inner(rt, s, syntax, over, item, tag)?;
         i += 1;
     }
+    Ok(())
 }
 
 // How many items a sequence has, and what the only one holds.
-fn print_items(s: &[u8], syntax: Syntax, tag: usize, sequence: Inside) {
+fn print_items(
+    rt: &impl Print,
+    s: &[u8],
+    syntax: Syntax,
+    tag: usize,
+    sequence: Inside,
+) -> io::Result<()> {
     match finding::items_in(s, scope_in(s, syntax, 3, sequence)) {
-        Items::Empty => print_count(0),
+        Items::Empty => print_count(rt, 0),
         Items::One(item) => {
-            print_count(1);
-            print_item(s, syntax, tag, item);
+            print_count(rt, 1)?;
+            print_item(rt, s, syntax, tag, item)
         }
-        Items::Several(n) => print_count(n),
+        Items::Several(n) => print_count(rt, n),
     }
 }
 
 // What the data set holds under a tag.
-fn print_outer(s: &[u8], syntax: Syntax, tag: usize) {
+fn print_outer(rt: &impl Print, s: &[u8], syntax: Syntax, tag: usize) -> io::Result<()> {
     match finding::find(s, elements::data_scope(s, syntax), tag) {
-        Found::Missing => {}
+        Found::Missing => Ok(()),
         Found::Value(value) => {
-            print_tag(0, tag);
-            print_value(s, value);
+            print_tag(rt, 0, tag)?;
+            print_value(rt, s, value)
         }
         Found::Sequence(sequence) => {
-            print_tag(0, tag);
-            print_items(s, syntax, tag, sequence);
+            print_tag(rt, 0, tag)?;
+            print_items(rt, s, syntax, tag, sequence)
         }
     }
 }
 
-fn print_data_set(s: &[u8], syntax: Syntax) {
+fn print_data_set(rt: &impl Print, s: &[u8], syntax: Syntax) -> io::Result<()> {
     let mut i = 0;
     while i < 35 {
         let tag = NAMED[i];
-        print_outer(s, syntax, tag);
+        print_outer(rt, s, syntax, tag)?;
         i += 1;
     }
+    Ok(())
 }
 
-fn report(s: &[u8], syntax: Syntax) {
+fn report(rt: &impl Print, s: &[u8], syntax: Syntax) -> io::Result<()> {
     let reading = elements::data_set(s, syntax);
     let read = reading.read;
     match read {
         Read::Refused(stop) => {
-            print(b" refused ");
-            io::print_decimal(STDOUT_FILENO, stop.number as u64);
-            print(b"\n");
+            let number = stop.number;
+            println!(rt; " refused {number}")
         }
         Read::Past(p) => {
             if p != s.len() {
-                print(b" not to its end");
+                print(rt, b" not to its end")?;
             }
-            print(b" read\n");
-            print_data_set(s, syntax);
+            print(rt, b" read\n")?;
+            print_data_set(rt, s, syntax)
         }
     }
 }
@@ -228,30 +252,23 @@ fn syntax_named(first: u8) -> Syntax {
 }
 
 // The file that one argument names, in the syntax that another does.
-fn report_file(i: usize, j: usize) {
-    let mut name = io::buffer();
-    let n = os::arg(i, &mut name);
-    let mut named = io::buffer();
-    let m = os::arg(j, &mut named);
-    print(&name[..n]);
-    print(b" ");
-    print(&named[..m]);
-    let syntax = syntax_named(named[0]);
-    let fd = os::open_read(&name[..n]);
-    let mut bytes = io::buffer();
-    let got = io::read_full(fd, &mut bytes);
-    libc::close(fd);
-    report(&bytes[..got], syntax);
+fn report_file<R: Files + Print + Alloc>(rt: &R, name: &str, named: &str) -> io::Result<()> {
+    print!(rt; "{name} {named}")?;
+    let syntax = syntax_named(named.as_bytes().first().copied().unwrap_or(0));
+    let bytes = fs::read(rt, name)?;
+    report(rt, bytes.as_slice(), syntax)
 }
 
-fn main() {
-    let count = os::arg_count();
+fn main(rt: HostRuntime) -> io::Result<()> {
+    let words: Vec<String> = env::args(&rt)?.collect(rt.alloc())?;
+    let count = words.len();
     let mut i = 1;
     while i < count {
         if count - i < 2 {
-            return;
+            return Ok(());
         }
-        report_file(i, i + 1);
+        report_file(&rt, words[i].as_str(), words[i + 1].as_str())?;
         i += 2;
     }
+    Ok(())
 }

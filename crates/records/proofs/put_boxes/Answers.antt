@@ -17,7 +17,7 @@ unfolding box_format picture_format
 loop-i-preserved c =
     let o = c.loop-i in
     let a = c.args in
-    (search rules, search rules, write_turn box_steps.laws box_size_lem a.s.now o.s c.put_image_box.new.0 a.p o.i a.a (search rules) c.put_image_box.ensures o.invariant.2)
+    (search rules, search rules, write_turn box_steps.laws box_size_lem a.s.now o.s c.put_image_box.new.s a.p o.i a.a (search rules) c.put_image_box.ensures o.invariant.2)
 
 pub returns : goal.returns
 returns c = let o = c.loop-i in

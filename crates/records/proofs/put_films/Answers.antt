@@ -17,7 +17,7 @@ unfolding film_format name_format layout_format serial_format
 loop-i-preserved c =
     let o = c.loop-i in
     let a = c.args in
-    (search rules, search rules, write_turn film_steps.laws film_size_lem a.s.now o.s c.put_film.new.0 a.p o.i a.a (search rules) c.put_film.ensures o.invariant.2)
+    (search rules, search rules, write_turn film_steps.laws film_size_lem a.s.now o.s c.put_film.new.s a.p o.i a.a (search rules) c.put_film.ensures o.invariant.2)
 
 pub returns : goal.returns
 returns c = let o = c.loop-i in

@@ -17,7 +17,7 @@ unfolding picture_format
 loop-i-preserved c =
     let o = c.loop-i in
     let a = c.args in
-    (search rules, search rules, write_turn picture_steps.laws picture_size_lem a.s.now o.s c.put_picture.new.0 a.p o.i a.a (search rules) c.put_picture.ensures o.invariant.2)
+    (search rules, search rules, write_turn picture_steps.laws picture_size_lem a.s.now o.s c.put_picture.new.s a.p o.i a.a (search rules) c.put_picture.ensures o.invariant.2)
 
 pub returns : goal.returns
 returns c = let o = c.loop-i in
