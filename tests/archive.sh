@@ -1,8 +1,9 @@
-# To be sourced: `archive NAME` makes target/staticlib/libNAME.a in the repository at whose top it is called. It proves the
-# crates that the archive rests on, as many at a time as the machine bears, and tells on standard error how far it is.
+# To be sourced: `archive NAME` makes target/staticlib/libNAME.a, of the crate NAME_c, in the repository at whose top it is
+# called. It proves the crates that the archive rests on, as many at a time as the machine bears, and tells on standard error
+# how far it is.
 
-# How many checks run at a time. rt waits for a whole batch, so one of as many as there are processors would leave all but one
-# of them idle in the end; each takes up to a gigabyte.
+# How many checks run at a time. One that waits for the crates below it counts too, so as many as there are processors would
+# leave some of them idle; each takes up to a gigabyte.
 checks_at_a_time() {
     local most=$((5 * $(nproc))) gigabytes
     gigabytes=$(awk '$1 == "MemAvailable:" { print int($2 / 1048576) }' /proc/meminfo)
@@ -23,22 +24,38 @@ crates_up_to() {
             print name
         }
         { sub(/#.*/, "") }
-        split($0, halves, ":") == 2 { rests_on[halves[1]] = halves[2] }
+        split($0, halves, ":") == 2 { split(halves[1], words, " "); rests_on[words[1]] = halves[2] }
         END { visit(wanted) }' crates.txt
 }
 
 minutes() { echo "$(($1 / 60)) min $(($1 % 60)) s"; }
 
+# The crates that rt is done with, as it says so far, up to the first that is not proved. Of one that has not changed since it was
+# proved it says nothing.
+proved_in() {
+    awk '
+        function done() {
+            failed = failed || (said && !proved)
+            if (crate && crate != "summary" && !failed)
+                print crate
+        }
+        /^== / { done(); crate = $2; said = proved = 0; next }
+        /^rt: .*: begins with what / { next }
+        /^logic=proved / { proved = 1 }
+        crate { said = 1 }
+        END { done() }' "$1"
+}
+
 # Tells how many crates are proved, which are being proved, and how long it took so far: where that changes, and every 20
-# seconds. rt has a log of each crate that it has begun. It runs beside the shell that started it, and ends with it.
+# seconds. rt writes in the folder out/ of a crate that it begins. It runs beside the shell that started it, and ends with it.
 tell_progress() {
-    set +e # find and grep fail where nothing is begun or proved yet
-    local since=$1 crate=$2 all=$3 logs proved now before='' told_at=0
+    set +e # find and awk fail where nothing is begun yet
+    local folder=$1 crate=$2 all=$3 begun proved now before='' told_at=0
     while sleep 1 && kill -0 $$ 2>/dev/null; do
-        logs=$(find target/log -name '*.out' -newer "$since" 2>/dev/null | sort)
-        proved=$(xargs -r grep -l '^rt: .* proved ' <<<"$logs" | sort)
-        now=$(comm -23 <(echo "$logs") <(echo "$proved") | sed 's|.*/||; s|\.out$||' | paste -s -d ' ')
-        [ "$(wc -w <<<"$proved")" -lt $((all - 1)) ] || now="$crate, and building its archive"
+        begun=$(find crates/*/out -maxdepth 2 -newer "$folder/begun" 2>/dev/null | cut -d / -f 2 | sort -u)
+        proved=$(proved_in "$folder/said" 2>/dev/null | sort)
+        now=$(comm -23 <(echo "$begun") <(echo "$proved") | paste -s -d ' ')
+        [ ! -f "$folder/built" ] || now="$crate, and building its archive"
         if { [ -n "$now" ] && [ "$now" != "$before" ]; } || [ $((SECONDS - told_at)) -ge 20 ]; then
             printf '[%2d of %d proved, %s] proving %s\n' "$(wc -w <<<"$proved")" "$all" "$(minutes $SECONDS)" "$now" >&2
             before=$now told_at=$SECONDS
@@ -50,27 +67,37 @@ tell_progress() {
 quietly() {
     local said=$1
     shift
-    "$@" >"$said" 2>&1 || { grep -v -e ': proved$' -e '^rt: .* proved (' -e '^library ' -e '^logic' "$said" >&2; return 1; }
+    "$@" >"$said" 2>&1 && return
+    awk '
+        /: (proved|ok)$/ || /^(library|statements|crate|checked|logic|rt: chose) / || /^logic=/ { next }
+        /^== / { crate = $0; next }
+        crate { print crate; crate = "" }
+        { print }' "$said" >&2
+    return 1
 }
 
 prove_and_build() (
     SECONDS=0
     folder=$(mktemp -d)
     touch "$folder/begun"
-    mapfile -t crates < <(crates_up_to "$1")
-    export RT_JOBS="${RT_JOBS:-$(checks_at_a_time)}"
-    echo "proving ${#crates[@]} crates for target/staticlib/lib$1.a, up to $RT_JOBS at a time" >&2
-    tell_progress "$folder/begun" "$1" ${#crates[@]} &
+    mapfile -t crates < <(crates_up_to "${1}_c")
+    jobs=${RT_JOBS:-$(checks_at_a_time)}
+    echo "proving ${#crates[@]} crates for target/staticlib/lib$1.a, up to $jobs at a time" >&2
+    tell_progress "$folder" "${1}_c" ${#crates[@]} &
     trap "kill $! 2>/dev/null || true; rm -rf '$folder'" EXIT
-    quietly "$folder/said" rt check "${crates[@]:0:${#crates[@]}-1}" || exit 1
-    quietly "$folder/said" rt staticlib "$1" || exit 1
+    # rt checks the crate in whose folder it is called and those that it rests on
+    (cd "crates/${1}_c" && quietly "$folder/said" rt all check --jobs "$jobs") || exit 1
+    (cd "crates/${1}_c" && quietly "$folder/built" rt lib) || exit 1
+    mkdir -p target/staticlib
+    cp "crates/${1}_c/out/lib${1}_c.a" "target/staticlib/lib$1.a" || exit 1
     echo "target/staticlib/lib$1.a is built of ${#crates[@]} proved crates, in $(minutes $SECONDS)" >&2
 )
 
-# The archive of a crate: proved and built where it is missing, or older than a file of the crates.
+# The archive of a crate: proved and built where it is missing, or older than a file of the crates. What rt keeps in out/ is
+# none of theirs.
 archive() {
     local built=target/staticlib/lib$1.a
-    if [ -f "$built" ] && [ -z "$(find crates crates.txt -newer "$built" -print -quit)" ]; then
+    if [ -f "$built" ] && [ -z "$(find crates.txt crates/*/* -name out -prune -o -newer "$built" -print -quit)" ]; then
         return
     fi
     if ! command -v rt >/dev/null; then

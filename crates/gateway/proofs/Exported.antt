@@ -3,7 +3,7 @@
 use mathlib.Core.List.{List, [], ◌∷◌}
 use Prim.Native.Nat.{ℕ}
 use contract.Lifetimes.{Lfts}
-use denote.Ref.{Bor}
+use denote.Ref.{Bor, MutBor}
 use Rattle.rules.specs.Outcomes.{Lent}
 use Rattle.runs.specs.Host.{Kept, HostCall, starting, opening, feeding, closing, taking, Shown}
 use Rattle.runs.specs.CallContracts.{Known, by_contract, Made, CallMade}
@@ -19,41 +19,45 @@ pub record Place : Type 0 where
   pub address : ℕ × ℕ
   pub name : ℕ
 
--- a buffer that is lent there, with its bytes
-abbrev pub buffer_at : Place → List ℕ → Bor (List ℕ)
+-- a buffer that is lent there to be written, with its bytes
+abbrev pub buffer_at : Place → List ℕ → MutBor (List ℕ)
 buffer_at p bytes = record { ref_ptr = p.address; ghost_name = p.name; now = bytes }
+
+-- a buffer that is lent there to be read: its bytes stay, so they are tracked under no name
+abbrev pub read_at : ℕ × ℕ → List ℕ → Bor (List ℕ)
+read_at address bytes = record { ref_ptr = address; now = bytes }
 
 -- For some lifetimes and places of the buffers: what the caller of each function learns of the number returned and the buffers afterwards.
 
 pub record StartTold (before root : List ℕ) (serial picture r : ℕ) (after : List ℕ) : Type 0 where
   pub lifetimes : Lfts 2
   pub records : Place
-  pub root_at : Place
+  pub root_at : ℕ × ℕ
   pub told :
-      start.Learnt lifetimes (buffer_at records before, (buffer_at root_at root, (serial, (picture, tt)))) r
-      (buffer_at records after, (buffer_at root_at root, (serial, (picture, tt))))
+      start.Learnt lifetimes (buffer_at records before, (read_at root_at root, (serial, (picture, tt)))) r
+      (buffer_at records after, (read_at root_at root, (serial, (picture, tt))))
 
 pub record OpenTold (before message : List ℕ) (context syntax r : ℕ) (after : List ℕ) : Type 0 where
   pub lifetimes : Lfts 2
   pub records : Place
-  pub message_at : Place
+  pub message_at : ℕ × ℕ
   pub told :
-      open-call.Learnt lifetimes (buffer_at records before, (buffer_at message_at message, (context, (syntax, tt)))) r
-      (buffer_at records after, (buffer_at message_at message, (context, (syntax, tt))))
+      open-call.Learnt lifetimes (buffer_at records before, (read_at message_at message, (context, (syntax, tt)))) r
+      (buffer_at records after, (read_at message_at message, (context, (syntax, tt))))
 
 pub record FeedTold (before : Lent) (fragment : List ℕ) (r : ℕ) (after : Lent) : Type 0 where
   pub lifetimes : Lfts 6
   pub records : Place
   pub message : Place
-  pub fragment_at : Place
+  pub fragment_at : ℕ × ℕ
   pub command : Place
   pub data_set : Place
   pub report : Place
   pub told :
       feed.Learnt lifetimes
-      (buffer_at records before.records, (buffer_at message before.message, (buffer_at fragment_at fragment, (buffer_at command before.command, (buffer_at data_set before.data_set, (buffer_at report before.report, tt))))))
+      (buffer_at records before.records, (buffer_at message before.message, (read_at fragment_at fragment, (buffer_at command before.command, (buffer_at data_set before.data_set, (buffer_at report before.report, tt))))))
       r
-      (buffer_at records after.records, (buffer_at message after.message, (buffer_at fragment_at fragment, (buffer_at command after.command, (buffer_at data_set after.data_set, (buffer_at report after.report, tt))))))
+      (buffer_at records after.records, (buffer_at message after.message, (read_at fragment_at fragment, (buffer_at command after.command, (buffer_at data_set after.data_set, (buffer_at report after.report, tt))))))
 
 pub record CloseTold (before : List ℕ) (r : ℕ) (after : List ℕ) : Type 0 where
   pub lifetimes : Lfts 1
@@ -89,15 +93,15 @@ somewhere = record { address = (0, 0); name = 0 }
 pub call_told : (k : Kept) (h : HostCall) (l : Kept) (s : Shown) → CallMade by_contract k h l s → CallMade exported k h l s
 unfolding somewhere
 call_told k (starting root serial picture) l s m =
-    (record { lifetimes = ([], ([], tt)); records = somewhere; root_at = somewhere; told = m.0 }, m.1, m.2)
+    (record { lifetimes = ([], ([], tt)); records = somewhere; root_at = somewhere.address; told = m.0 }, m.1, m.2)
 call_told k (opening message context syntax) l s m =
-    (record { lifetimes = ([], ([], tt)); records = somewhere; message_at = somewhere; told = m.0 }, m.1, m.2)
+    (record { lifetimes = ([], ([], tt)); records = somewhere; message_at = somewhere.address; told = m.0 }, m.1, m.2)
 call_told k (feeding fragment bytes command data_set report) l s m = (
   record {
     lifetimes = ([], ([], ([], ([], ([], ([], tt))))));
     records = somewhere;
     message = somewhere;
-    fragment_at = somewhere;
+    fragment_at = somewhere.address;
     command = somewhere;
     data_set = somewhere;
     report = somewhere;

@@ -1,4 +1,4 @@
-// Gateway: the calls that C links.
+// Gateway: the five calls. gateway_c exports them to C.
 #![tactic(auto)]
 
 ghost use Rattle.runs.specs.CallContracts.{StartMet, OpenMet, FeedMet, CloseMet, TakeMet};

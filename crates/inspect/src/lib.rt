@@ -1,4 +1,4 @@
-// Inspect: whether bytes are a data set, where the reading stopped, and how many headers it passed, called from C.
+// Inspect: whether bytes are a data set, where the reading stopped, and how many headers it passed. inspect_c exports it to C.
 #![tactic(auto)]
 
 ghost use Rattle.std.specs.Prelude.{◌≤◌, ◌≡◌, length};

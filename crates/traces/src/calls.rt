@@ -26,7 +26,7 @@ fn start(records: &mut [u8], line: &[u8], at: usize, reply: &[u8]) -> bool
     let second = next_word(line, at);
     let third = next_word(line, second);
     let stop = word_stop(line, at);
-    let mut root = io::large_buffer();
+    let mut root = [0; 65536];
     let n = bytes_of(&line[at..stop], &mut root);
     is_answer(
         reply,
@@ -96,7 +96,7 @@ fn feed_line(
     if message.len() < room {
         return false;
     }
-    let mut fragment = io::large_buffer();
+    let mut fragment = [0; 65536];
     let n = bytes_of(&line[at..], &mut fragment);
     feed(records, &mut message[0..room], &fragment[0..n], reply)
 }

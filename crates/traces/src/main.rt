@@ -7,18 +7,20 @@ mod calls;
 mod replies;
 mod words;
 
-ghost use Rattle.std.specs.Prelude.{◌+◌, ◌≤◌, min, ◌≡◌, length};
-ghost use Rattle.io.specs.Counts.{IsPrefixLen};
+ghost use Rattle.std.specs.Prelude.{◌+◌, ◌≤◌, min, ◌≡◌, length, take, IfOk};
 
 use calls::Outcome;
-use libc::STDOUT_FILENO;
+use std::io::Read;
+use std::rt::Files;
+use std::{env, fs, io};
+use words::find;
 
-fn print(text: &[u8]) {
-    io::write_all(STDOUT_FILENO, text);
+fn print(rt: &impl Print, text: &[u8]) -> io::Result<()> {
+    rt.write_all(text)
 }
 
-fn print_count(n: usize) {
-    io::print_decimal(STDOUT_FILENO, n as u64);
+fn print_count(rt: &impl Print, n: usize) -> io::Result<()> {
+    print!(rt; "{n}")
 }
 
 // Where a line stops, and where the next one begins.
@@ -32,7 +34,7 @@ fn line_at(s: &[u8], at: usize) -> Line
     requires { at ≤ length s.now }
     ensures { (at ≤ result.stop) × (result.stop ≤ length s.now) × (result.next ≤ length s.now) × (min (at + 1) (length s.now) ≤ result.next) }
 {
-    let stop = bytes::scan::find(s, at, s.len(), b'\n');
+    let stop = find(s, at, s.len(), b'\n');
     if stop < s.len() {
         return Line {
             stop,
@@ -88,45 +90,54 @@ fn replayed(records: &mut [u8], message: &mut [u8], trace: &[u8], kept: &[u8]) -
     }
 }
 
-fn print_passed(n: usize) {
+fn print_passed(rt: &impl Print, n: usize) -> io::Result<()> {
     if n == 0 {
-        return;
+        return Ok(());
     }
-    print(b", calls not made: ");
-    print_count(n);
+    print(rt, b", calls not made: ")?;
+    print_count(rt, n)
 }
 
-fn print_rest(whole: bool) {
+fn print_rest(rt: &impl Print, whole: bool) -> io::Result<()> {
     if whole {
-        return;
+        return Ok(());
     }
-    print(b", then another");
+    print(rt, b", then another")
 }
 
-fn report(finding: Finding) {
-    print_count(finding.same);
-    print(b" replies as kept");
-    print_passed(finding.passed);
-    print_rest(finding.whole);
-    print(b"\n");
+fn report(rt: &impl Print, finding: Finding) -> io::Result<()> {
+    print_count(rt, finding.same)?;
+    print(rt, b" replies as kept")?;
+    print_passed(rt, finding.passed)?;
+    print_rest(rt, finding.whole)?;
+    print(rt, b"\n")
 }
 
-fn print_argument(i: usize) {
-    let mut text = io::buffer();
-    let n = os::arg(i, &mut text);
-    print(&text[..n]);
+fn print_argument(rt: &impl Print, name: &str) -> io::Result<()> {
+    print(rt, name.as_bytes())
+}
+
+// Reads until the slice is full or the input ends.
+fn read_full(file: &mut impl Read, into: &mut [u8]) -> io::Result<usize>
+    ensures { IfOk result (λ n. (n ≤ length into.new) × (n ≡ length (take n into.new))) }
+{
+    let mut done = 0;
+    while done < into.len() {
+        let n = file.read(&mut into[done..])?;
+        if n == 0 {
+            return Ok(done);
+        }
+        done += n;
+    }
+    Ok(done)
 }
 
 // Reads the file that an argument names.
-fn read(i: usize, into: &mut [u8]) -> usize
-    ensures { IsPrefixLen result into.new }
+fn read(rt: &impl Files, name: &str, into: &mut [u8]) -> io::Result<usize>
+    ensures { IfOk result (λ n. (n ≤ length into.new) × (n ≡ length (take n into.new))) }
 {
-    let mut name = io::buffer();
-    let n = os::arg(i, &mut name);
-    let fd = os::open_read(&name[..n]);
-    let got = io::read_full(fd, into);
-    libc::close(fd);
-    got
+    let mut file = fs::open(rt, name)?;
+    read_full(&mut file, into)
 }
 
 // The longest that a kept trace opens with, but for those past the limit.
@@ -136,26 +147,31 @@ fn message_buffer() -> [u8; 65537]
     [0; 65537]
 }
 
-fn replay(i: usize, j: usize) {
-    let mut trace = io::large_buffer();
-    let calls = read(i, &mut trace);
-    let mut kept = io::large_buffer();
-    let told = read(j, &mut kept);
+fn replay(rt: &(impl Files + Print), name: &str, replies: &str) -> io::Result<()> {
+    let mut trace = [0; 65536];
+    let calls = read(rt, name, &mut trace)?;
+    let mut kept = [0; 65536];
+    let told = read(rt, replies, &mut kept)?;
     let mut records = [0; records::RECORDS];
     let mut message = message_buffer();
-    print_argument(i);
-    print(b": ");
-    report(replayed(&mut records, &mut message, &trace[..calls], &kept[..told]));
+    print_argument(rt, name)?;
+    print(rt, b": ")?;
+    report(
+        rt,
+        replayed(&mut records, &mut message, &trace[..calls], &kept[..told]),
+    )
 }
 
-fn main() {
-    let count = os::arg_count();
+fn main(rt: HostRuntime) -> io::Result<()> {
+    let names: Vec<String> = env::args(&rt)?.collect(rt.alloc())?;
+    let count = names.len();
     let mut i = 1;
     while i < count {
         if count - i < 2 {
-            return;
+            return Ok(());
         }
-        replay(i, i + 1);
+        replay(&rt, names[i].as_str(), names[i + 1].as_str())?;
         i += 2;
     }
+    Ok(())
 }

@@ -1,4 +1,6 @@
 // A reply held to the kept one, piece by piece.
+ghost use Rattle.std.specs.Prelude.{◌≡◌, ◌+◌, ◌<◌, if◌then◌else◌, nat_lt};
+
 use octets::{number_at, same_bytes};
 
 // Past the end of any reply.
@@ -19,16 +21,41 @@ pub fn after(s: &[u8], at: usize, text: &[u8]) -> usize {
     NOWHERE
 }
 
-fn after_decimal(s: &[u8], at: usize, n: u64) -> usize {
-    let mut digits = [0; 20];
-    let k = io::decimal(n, &mut digits);
-    after(s, at, &digits[..k])
+// The character of a digit, in lower case.
+fn digit_of(d: u64) -> u8
+    requires { d < 16 }
+    ensures { result ≡ (if nat_lt d 10 then 48 + d else 87 + d) }
+{
+    if d < 10 {
+        return d as u8 + b'0';
+    }
+    d as u8 - 10 + b'a'
 }
 
+fn after_digit(s: &[u8], at: usize, d: u64) -> usize
+    requires { d < 16 }
+{
+    let text = [digit_of(d)];
+    after(s, at, &text)
+}
+
+fn after_decimal(s: &[u8], at: usize, n: u64) -> usize {
+    if n < 10 {
+        return after_digit(s, at, n);
+    }
+    let before = after_decimal(s, at, n / 10);
+    after_digit(s, before, n % 10)
+}
+
+// A number in hexadecimal, with zeros in front up to so many digits.
 fn after_hex(s: &[u8], at: usize, n: u64, width: usize) -> usize {
-    let mut digits = [0; 16];
-    let k = io::hex(n, width, &mut digits);
-    after(s, at, &digits[..k])
+    if n < 16 {
+        if width < 2 {
+            return after_digit(s, at, n);
+        }
+    }
+    let before = after_hex(s, at, n / 16, width.saturating_sub(1));
+    after_digit(s, before, n % 16)
 }
 
 fn after_byte(s: &[u8], at: usize, b: u8) -> usize {

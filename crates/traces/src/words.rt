@@ -1,12 +1,29 @@
 // The words of a call: numbers, and bytes in hexadecimal.
-ghost use Rattle.std.specs.Prelude.{◌≤◌, ◌<◌, length};
+ghost use Rattle.std.specs.Prelude.{◌≡◌, ◌≢◌, ℕ, ◌≤◌, ◌<◌, length, slice_index};
+
+// The first place of a byte from `at` on and before `end`, else `end`.
+pub fn find(s: &[u8], at: usize, end: usize, b: u8) -> usize
+    requires { (at ≤ end) × (end ≤ length s.now) }
+    ensures within { (at ≤ result) × (result ≤ end) }
+    ensures before { (k : ℕ) → at ≤ k → k < result → slice_index s.now k ≢ b }
+    ensures found { result < end → slice_index s.now result ≡ b }
+{
+    let mut i = at;
+    while i < end {
+        if s[i] == b {
+            return i;
+        }
+        i += 1;
+    }
+    end
+}
 
 // Where the word at a place stops.
 pub fn word_stop(line: &[u8], at: usize) -> usize
     requires { at ≤ length line.now }
     ensures { (at ≤ result) × (result ≤ length line.now) }
 {
-    bytes::scan::find(line, at, line.len(), b' ')
+    find(line, at, line.len(), b' ')
 }
 
 // Where the word after that at a place begins.

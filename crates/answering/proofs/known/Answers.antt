@@ -11,32 +11,27 @@ use Rattle.verdicts.specs.Ready.{UidsIn}
 use Rattle.answering.proofs.Laws.{uids_known, meant_left, request_as}
 use Rattle.answering.proofs.known.Goals as goal
 
-uids : (c : tie.After-command-held) → UidsIn c.command-held.result.now (start c).args.request.operation
-uids c = subst⁻¹ (λ (x : List ℕ). UidsIn x (start c).args.request.operation) c.command-held.ensures (start c).requires.3
-
 pub decided-v-requires : goal.decided-v-requires
 decided-v-requires c =
-    let o = start c in
-    ((o.pre.0.0, o.pre.2), uids c, o.pre.4)
+    let uids : UidsIn c.command_held-c.result.now c.args.request.operation = subst⁻¹ (λ (x : List ℕ). UidsIn x c.args.request.operation) c.command_held-c.ensures c.requires.3 in
+    ((c.requires.0.0, c.requires.2), uids, c.requires.4)
 
 pub respond-requires : goal.respond-requires
 respond-requires c =
-    let o = start c in
-    let a = o.args in
+    let uids : UidsIn c.command_held-c.result.now c.args.request.operation = subst⁻¹ (λ (x : List ℕ). UidsIn x c.args.request.operation) c.command_held-c.ensures c.requires.3 in
+    let a = c.args in
     let text = c.command_held-c.result.now in
     let k = core_in a.records.now in
-    let fit = contents_fit k text (record { came = a.came; bytes = a.d.now }) a.request o.pre.2.0 (uids_known text a.request.operation (uids c)) in
-    (o.pre.0.1, o.pre.0.2, o.pre.0.3, o.pre.0.0, o.pre.2.0, uids c, subst (λ (x : Verdict). ContentsFit x.contents) (sym c.decided-v.ensures.0) fit)
+    let fit = contents_fit k text (record { came = a.came; bytes = a.d.now }) a.request c.requires.2.0 (uids_known text a.request.operation uids) in
+    (c.requires.0.1, c.requires.0.2, c.requires.0.3, c.requires.0.0, c.requires.2.0, uids, subst (λ (x : Verdict). ContentsFit x.contents) (sym c.decided-v.ensures.0) fit)
 
 pub put_settled-requires : goal.put_settled-requires
 put_settled-requires c =
-    let o = start c in
-    (o.pre.0.0, (o.pre.2.1, o.pre.2.2), c.decided-v.ensures.1)
+    (c.requires.0.0, (c.requires.2.1, c.requires.2.2), c.decided-v.ensures.1)
 
 pub returns : goal.returns
 returns c =
-    let o = start c in
-    let a = o.args in
+    let a = c.args in
     let k = core_in a.records.now in
     let text = c.command_held-c.result.now in
     request_as k (record { came = a.came; bytes = a.d.now }) a.request c.command_held-c.ensures _ _ _ _ _ _ _ _

@@ -10,9 +10,9 @@ pixel_bytes-bytes-requires c =
 
 pub overflow_add-result : goal.overflow_add-result
 overflow_add-result c =
-    let w = pixels_in_lem c.args.d.now c.args.t2 c.seen-at.result.value c.pixel_bytes-bytes.result c.seen-at.ensures.1 c.pixel_bytes-bytes.ensures.0 c.requires.1 (c.requires.0 8 (omega arith)) in
+    let w = pixels_in_lem c.args.d.now c.args.item c.seen-at.result.value c.pixel_bytes-bytes.result c.seen-at.ensures.1 c.pixel_bytes-bytes.ensures.0 c.requires.1 (c.requires.0 8 (omega arith)) in
     search rules
 
 pub returns : goal.returns
 returns c =
-    pixels_in_lem c.args.d.now c.args.t2 c.seen-at.result.value c.pixel_bytes-bytes.result c.seen-at.ensures.1 c.pixel_bytes-bytes.ensures.0 c.requires.1 (c.requires.0 8 (omega arith))
+    pixels_in_lem c.args.d.now c.args.item c.seen-at.result.value c.pixel_bytes-bytes.result c.seen-at.ensures.1 c.pixel_bytes-bytes.ensures.0 c.requires.1 (c.requires.0 8 (omega arith))

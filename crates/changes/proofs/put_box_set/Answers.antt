@@ -9,28 +9,29 @@ use Rattle.changes.proofs.Changed.{place_below, box_set_lem}
 use borrow.Author.Rules.{rules}
 use Rattle.changes.proofs.put_box_set.Goals as goal
 
-below : (c : tie.After-slice-known) → c.before.args.film < most_films
-below c = let a = c.before.args in
-    place_below a.b.now (λ i. omega (arith, c.slice-known.given i)) c.before.requires.0 a.film c.before.requires.2
-
 pub overflow_mul-film : goal.overflow_mul-film
-overflow_mul-film c = let l = below c in
+overflow_mul-film c =
+    let below : c.args.film < most_films = (let a = c.args in place_below a.b.now (λ i. omega (arith, c.slice_known-1.given i)) c.requires.0 a.film c.requires.2) in
     search rules
 
 pub overflow_add-film : goal.overflow_add-film
-overflow_add-film c = let l = below c in
+overflow_add-film c =
+    let below : c.args.film < most_films = (let a = c.args in place_below a.b.now (λ i. omega (arith, c.slice_known-1.given i)) c.requires.0 a.film c.requires.2) in
     search rules
 
 pub overflow_add-film-2 : goal.overflow_add-film-2
-overflow_add-film-2 c = let l = below c in
+overflow_add-film-2 c =
+    let below : c.args.film < most_films = (let a = c.args in place_below a.b.now (λ i. omega (arith, c.slice_known-1.given i)) c.requires.0 a.film c.requires.2) in
     search rules
 
 pub overflow_add-film-3 : goal.overflow_add-film-3
-overflow_add-film-3 c = let l = below c in
+overflow_add-film-3 c =
+    let below : c.args.film < most_films = (let a = c.args in place_below a.b.now (λ i. omega (arith, c.slice_known-1.given i)) c.requires.0 a.film c.requires.2) in
     search rules
 
 pub put_image_box-requires : goal.put_image_box-requires
-put_image_box-requires c = let l = below c in
+put_image_box-requires c =
+    let below : c.args.film < most_films = (let a = c.args in place_below a.b.now (λ i. omega (arith, c.slice_known-1.given i)) c.requires.0 a.film c.requires.2) in
     search rules
 
 pub returns : goal.returns

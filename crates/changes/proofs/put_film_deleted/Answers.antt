@@ -13,20 +13,19 @@ use Rattle.changes.proofs.Deleted.{last_place, film_deleted_lem}
 use borrow.Author.Rules.{rules}
 use Rattle.changes.proofs.put_film_deleted.Goals as goal
 
-below : (c : tie.After-slice-known) → c.before.args.place < most_films
-below c = let a = c.before.args in
-    place_below a.b.now (λ i. omega (arith, c.slice-known.given i)) c.before.requires.0 a.place c.before.requires.2
-
 pub overflow_mul-place : goal.overflow_mul-place
-overflow_mul-place c = let l = below c in
+overflow_mul-place c =
+    let below : c.args.place < most_films = (let a = c.args in place_below a.b.now (λ i. omega (arith, c.slice_known-1.given i)) c.requires.0 a.place c.requires.2) in
     search rules
 
 pub overflow_add-place : goal.overflow_add-place
-overflow_add-place c = let l = below c in
+overflow_add-place c =
+    let below : c.args.place < most_films = (let a = c.args in place_below a.b.now (λ i. omega (arith, c.slice_known-1.given i)) c.requires.0 a.place c.requires.2) in
     search rules
 
 pub move_films_down-requires : goal.move_films_down-requires
-move_films_down-requires c = let l = below c in
+move_films_down-requires c =
+    let below : c.args.place < most_films = (let a = c.args in place_below a.b.now (λ i. omega (arith, c.slice_known-1.given i)) c.requires.0 a.place c.requires.2) in
     search rules
 
 pub overflow_sub-count : goal.overflow_sub-count

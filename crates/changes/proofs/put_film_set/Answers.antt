@@ -6,18 +6,20 @@ use Rattle.changes.proofs.Changed.{place_below, film_set_lem}
 use borrow.Author.Rules.{rules}
 use Rattle.changes.proofs.put_film_set.Goals as goal
 
-below : (c : tie.After-slice-known) → c.before.args.place < most_films
-below c = let a = c.before.args in
-    place_below a.b.now (λ i. omega (arith, c.slice-known.given i)) c.before.requires.0 a.place c.before.requires.2
-
 pub overflow_mul-place : goal.overflow_mul-place
-overflow_mul-place c = let l = below c in search rules
+overflow_mul-place c =
+    let below : c.args.place < most_films = (let a = c.args in place_below a.b.now (λ i. omega (arith, c.slice_known-1.given i)) c.requires.0 a.place c.requires.2) in
+    search rules
 
 pub overflow_add-place : goal.overflow_add-place
-overflow_add-place c = let l = below c in search rules
+overflow_add-place c =
+    let below : c.args.place < most_films = (let a = c.args in place_below a.b.now (λ i. omega (arith, c.slice_known-1.given i)) c.requires.0 a.place c.requires.2) in
+    search rules
 
 pub put_film-requires : goal.put_film-requires
-put_film-requires c = let l = below c in search rules
+put_film-requires c =
+    let below : c.args.place < most_films = (let a = c.args in place_below a.b.now (λ i. omega (arith, c.slice_known-1.given i)) c.requires.0 a.place c.requires.2) in
+    search rules
 
 pub returns : goal.returns
 returns c =

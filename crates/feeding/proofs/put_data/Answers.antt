@@ -9,7 +9,7 @@ put_new_boxes-requires c =
 
 pub returns-in-Nothing : goal.returns-in-Nothing
 returns-in-Nothing c =
-    (rw c.in-Nothing.is (sym (laid_none c.args.data-set.now 0)), rw c.in-Nothing.is)
+    (rw c.in-Nothing.is (sym (laid_none c.args.data_set.now 0)), rw c.in-Nothing.is)
 
 pub returns-in-NewBoxes : goal.returns-in-NewBoxes
 returns-in-NewBoxes c =

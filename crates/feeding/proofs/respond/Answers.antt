@@ -25,10 +25,9 @@ put_command-stop-requires c =
 
 pub returns : goal.returns
 returns c =
-    let o = start_of c in
-    let a = o.args in
+    let a = c.args in
     let k = core_in a.b.now in
     let n = c.numbers_at-numbers.result in
     let same = c.numbers_at-numbers.ensures ∙ sym (core_numbers a.b.now) in
     let told = c.front.ensures ∙ laid_front _ _ (uid_of n a.v.instance) _ c.put_uid-n.ensures.0 c.put_uid-n.ensures.1 in
-    responded k a.c.now a.request (verdict_of k a.v) _ _ c.front.result.now a.command.now _ a.data-set.now _ a.report.now _ (ap given told ∙ c.put_uid-n.ensures.3 ∙ ap (λ m. instance_of m a.v.instance) same) c.put_data-size.ensures c.put_command-stop.ensures c.put_note.ensures
+    responded k a.c.now a.request (verdict_of k a.v) _ _ c.front.result.now a.command.now _ a.data_set.now _ a.report.now _ (ap given told ∙ c.put_uid-n.ensures.3 ∙ ap (λ m. instance_of m a.v.instance) same) c.put_data-size.ensures c.put_command-stop.ensures c.put_note.ensures

@@ -8,24 +8,27 @@ use Rattle.rules.specs.Outcomes.{records_rules}
 use Rattle.opening.proofs.Answers.{accepted_long, close_unread, close_refused, close_done}
 use Rattle.opening.proofs.close.Goals as goal
 
-accepted : (c : tie.Else1) → first_broken (records_rules (start c.before).args.records.now) ≡ 0
-accepted c = sym c.before.refusal.ensures ∙ c.if1.false
-
-long : (c : tie.Else1) → records_size ≤ length (start c.before).args.records.now
-long c = accepted_long (start c.before).args.records.now (accepted c)
-
 pub returns-then-unread-ne0 : goal.returns-then-unread-ne0
 returns-then-unread-ne0 c = close_unread _ _ c.refusal-unread.ensures c.if-unread-ne0.true
 
 pub bounds-records-6050 : goal.bounds-records-6050
-bounds-records-6050 c = omega (arith, long c)
+bounds-records-6050 c =
+    let accepted : first_broken (records_rules c.args.records.now) ≡ 0 = sym c.refusal-unread.ensures ∙ c.if-unread-ne0.false in
+    let long : records_size ≤ length c.args.records.now = accepted_long c.args.records.now accepted in
+    omega (arith, long)
 
 pub returns-then-records-eq0 : goal.returns-then-records-eq0
-returns-then-records-eq0 c = close_refused _ (accepted c) c.if-records-eq0.true
+returns-then-records-eq0 c =
+    let accepted : first_broken (records_rules c.args.records.now) ≡ 0 = sym c.refusal-unread.ensures ∙ c.if-unread-ne0.false in
+    close_refused _ accepted c.if-records-eq0.true
 
 pub put_closed-requires : goal.put_closed-requires
-put_closed-requires c = long c
+put_closed-requires c =
+    let accepted : first_broken (records_rules c.args.records.now) ≡ 0 = sym c.refusal-unread.ensures ∙ c.if-unread-ne0.false in
+    let long : records_size ≤ length c.args.records.now = accepted_long c.args.records.now accepted in
+    long
 
 pub returns : goal.returns
 returns c =
-    rw c.put_closed.ensures (close_done _ (accepted c) c.if-records-eq0.false)
+    let accepted : first_broken (records_rules c.args.records.now) ≡ 0 = sym c.refusal-unread.ensures ∙ c.if-unread-ne0.false in
+    rw c.put_closed.ensures (close_done _ accepted c.if-records-eq0.false)

@@ -8,27 +8,28 @@ use Rattle.records.specs.Places.{core_in}
 use Rattle.opening.proofs.Answers.{accepted_long, open_unread, open_refused, open_done, open_fits}
 use Rattle.opening.proofs.open.Goals as goal
 
-accepted : (c : tie.Else1) → first_broken (records_rules (start c.before).args.records.now) ≡ 0
-accepted c = sym c.before.refusal.ensures ∙ c.if1.false
-
-long : (c : tie.Else1) → records_size ≤ length (start c.before).args.records.now
-long c = accepted_long (start c.before).args.records.now (accepted c)
-
 pub returns-then-unread-ne0 : goal.returns-then-unread-ne0
 returns-then-unread-ne0 c = open_unread _ _ _ c.refusal-unread.ensures c.if-unread-ne0.true
 
 pub open_refusal-refusal-requires : goal.open_refusal-refusal-requires
-open_refusal-refusal-requires c = long c
+open_refusal-refusal-requires c =
+    let accepted : first_broken (records_rules c.args.records.now) ≡ 0 = sym c.refusal-unread.ensures ∙ c.if-unread-ne0.false in
+    let long : records_size ≤ length c.args.records.now = accepted_long c.args.records.now accepted in
+    long
 
 pub returns-then-refusal-ne0 : goal.returns-then-refusal-ne0
-returns-then-refusal-ne0 c = open_refused _ (accepted c) _ _ c.open_refusal-refusal.ensures c.if-refusal-ne0.true
+returns-then-refusal-ne0 c =
+    let accepted : first_broken (records_rules c.args.records.now) ≡ 0 = sym c.refusal-unread.ensures ∙ c.if-unread-ne0.false in
+    open_refused _ accepted _ _ c.open_refusal-refusal.ensures c.if-refusal-ne0.true
 
 pub put_open-requires : goal.put_open-requires
 put_open-requires c =
-    let o = start c in
-    let fits = open_fits (core_in o.args.records.now) _ _ _ (sym c.open_refusal-refusal.ensures ∙ c.if-refusal-ne0.false) in
-    (long c, fits.0, fits.1, fits.2)
+    let accepted : first_broken (records_rules c.args.records.now) ≡ 0 = sym c.refusal-unread.ensures ∙ c.if-unread-ne0.false in
+    let long : records_size ≤ length c.args.records.now = accepted_long c.args.records.now accepted in
+    let fits = open_fits (core_in c.args.records.now) _ _ _ (sym c.open_refusal-refusal.ensures ∙ c.if-refusal-ne0.false) in
+    (long, fits.0, fits.1, fits.2)
 
 pub returns : goal.returns
 returns c =
-    rw c.put_open.ensures (open_done _ (accepted c) _ (sym c.open_refusal-refusal.ensures ∙ c.if-refusal-ne0.false))
+    let accepted : first_broken (records_rules c.args.records.now) ≡ 0 = sym c.refusal-unread.ensures ∙ c.if-unread-ne0.false in
+    rw c.put_open.ensures (open_done _ accepted _ (sym c.open_refusal-refusal.ensures ∙ c.if-refusal-ne0.false))

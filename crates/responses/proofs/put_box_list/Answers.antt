@@ -10,15 +10,6 @@ unfolding chars
 put_element-p-requires c =
     omega (arith, class_size c.args.syntax)
 
--- NEED? slice-bounds-put-element-end
-part-put-element-end : tie.Need-slice-bounds-put-element-end
-part-put-element-end c =
-    let after-put-made : tie.After-put-made = search in
-    let start : tie.Start = search in
-    let a = start.args in
-    let uid = after-put-made.put-made in
-    omega (arith, made_short a.root.now a.serial (omega arith), uid.ensures.1, uid.kept.0)
-
 pub put_element-requires : goal.put_element-requires
 unfolding chars
 put_element-requires c =

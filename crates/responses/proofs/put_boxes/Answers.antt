@@ -14,7 +14,7 @@ loop-i-preserved c =
     let a = c.args in
     let o = c.loop-i in
     let box = c.put_box-p in
-    let turn = boxes_turn a.syntax a.root.now o.out box.new.0 a.first a.count o.i o.p box.result c.loop-i-test.true (omega arith) box.ensures.2 box.ensures.0 box.ensures.1 in
+    let turn = boxes_turn a.syntax a.root.now o.out box.new.out a.first a.count o.i o.p box.result c.loop-i-test.true (omega arith) box.ensures.2 box.ensures.0 box.ensures.1 in
     (search rules, search rules, omega arith, o.invariant.3 ∙ turn.0, o.invariant.4 ∙ turn.1)
 
 pub returns : goal.returns

@@ -16,10 +16,10 @@ returns c =
     let status = c.put_short-q in
     let instance = c.put_uid-r in
     let action = c.put_action in
-    let shownBytes = number_bytes 0x0000_0800 (data_set_type (data_shown a.with-data)) in
+    let shownBytes = number_bytes 0x0000_0800 (data_set_type (data_shown a.with_data)) in
     let statusBytes = number_bytes 0x0000_0900 a.status in
     let instanceBytes = uid_bytes 0x0000_1000 a.instance.now in
-    let l = number_size 0x0000_0800 (data_set_type (data_shown a.with-data)) in
+    let l = number_size 0x0000_0800 (data_set_type (data_shown a.with_data)) in
     let k = number_size 0x0000_0900 a.status in
     let m = action_size a.acts a.kind in (
       laid_next a.out.now shown.last.0 _ shownBytes (statusBytes ++ (instanceBytes ++ action_bytes a.acts a.kind)) a.at shown.result (omega arith) (omega arith)

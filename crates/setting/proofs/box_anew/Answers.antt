@@ -6,32 +6,29 @@ use Rattle.setting.proofs.InPlace.{film_place_lem, box_read}
 use borrow.Author.Rules.{rules}
 use Rattle.setting.proofs.box_anew.Goals as goal
 
-below : (o : tie.Start) → o.args.i < most_films
-below o = film_place_lem o.args.b.now o.requires.1 o.args.i o.requires.2
-
 pub overflow_mul-i : goal.overflow_mul-i
 overflow_mul-i c =
-    let l = below c in
+    let below : c.args.i < most_films = film_place_lem c.args.b.now c.requires.1 c.args.i c.requires.2 in
     search rules
 
 pub overflow_add-i : goal.overflow_add-i
 overflow_add-i c =
-    let l = below c in
+    let below : c.args.i < most_films = film_place_lem c.args.b.now c.requires.1 c.args.i c.requires.2 in
     search rules
 
 pub overflow_add-i-2 : goal.overflow_add-i-2
 overflow_add-i-2 c =
-    let l = below c in
+    let below : c.args.i < most_films = film_place_lem c.args.b.now c.requires.1 c.args.i c.requires.2 in
     search rules
 
 pub overflow_add-i-3 : goal.overflow_add-i-3
 overflow_add-i-3 c =
-    let l = below c in
+    let below : c.args.i < most_films = film_place_lem c.args.b.now c.requires.1 c.args.i c.requires.2 in
     search rules
 
 pub image_box_at-old-requires : goal.image_box_at-old-requires
 image_box_at-old-requires c =
-    let l = below c in
+    let below : c.args.i < most_films = film_place_lem c.args.b.now c.requires.1 c.args.i c.requires.2 in
     search rules
 
 pub returns : goal.returns

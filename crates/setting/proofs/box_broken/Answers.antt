@@ -8,27 +8,24 @@ use Rattle.setting.proofs.Laws.{attribute_breaks, nothing_fills, picture_lacks, 
 use borrow.Author.Rules.{rules}
 use Rattle.setting.proofs.box_broken.Goals as goal
 
-below : (o : tie.Start) → o.args.i < most_films
-below o = film_place_lem o.args.b.now o.requires.1 o.args.i o.requires.2
-
 pub overflow_mul-i : goal.overflow_mul-i
 overflow_mul-i c =
-    let l = below c in
+    let below : c.args.i < most_films = film_place_lem c.args.b.now c.requires.1 c.args.i c.requires.2 in
     search rules
 
 pub overflow_add-i : goal.overflow_add-i
 overflow_add-i c =
-    let l = below c in
+    let below : c.args.i < most_films = film_place_lem c.args.b.now c.requires.1 c.args.i c.requires.2 in
     search rules
 
 pub overflow_add-i-2 : goal.overflow_add-i-2
 overflow_add-i-2 c =
-    let l = below c in
+    let below : c.args.i < most_films = film_place_lem c.args.b.now c.requires.1 c.args.i c.requires.2 in
     search rules
 
 pub box_count_at-count-requires : goal.box_count_at-count-requires
 box_count_at-count-requires c =
-    let l = below c in
+    let below : c.args.i < most_films = film_place_lem c.args.b.now c.requires.1 c.args.i c.requires.2 in
     search rules
 
 pub box_broken-first-requires : goal.box_broken-first-requires

@@ -11,9 +11,6 @@ use Rattle.setting.proofs.Laws.{own_broken, own_kept, film_stored}
 use borrow.Author.Rules.{rules}
 use Rattle.setting.proofs.film_decided.Goals as goal
 
-below : (o : tie.Start) → o.args.i < most_films
-below o = film_place_lem o.args.b.now o.requires.0.1.0 o.args.i o.requires.2
-
 pub returns-then-broken-ne0 : goal.returns-then-broken-ne0
 unfolding set_plan
 returns-then-broken-ne0 c =
@@ -24,29 +21,28 @@ returns-then-broken-ne0 c =
 
 pub overflow_mul-i : goal.overflow_mul-i
 overflow_mul-i c =
-    let l = below c in
+    let below : c.args.i < most_films = film_place_lem c.args.b.now c.requires.0.1.0 c.args.i c.requires.2 in
     search rules
 
 pub overflow_add-i : goal.overflow_add-i
 overflow_add-i c =
-    let l = below c in
+    let below : c.args.i < most_films = film_place_lem c.args.b.now c.requires.0.1.0 c.args.i c.requires.2 in
     search rules
 
 pub film_at-old-requires : goal.film_at-old-requires
 film_at-old-requires c =
-    let l = below c in
+    let below : c.args.i < most_films = film_place_lem c.args.b.now c.requires.0.1.0 c.args.i c.requires.2 in
     search rules
 
 pub returns : goal.returns
 unfolding set_plan EffectFits
 returns c =
-    let o = start c in
-    let a = o.args in
+    let a = c.args in
     let k = core_in a.b.now in
     let l = listing_of a.d.now a.syntax in
-    let was = c.film_at-old.ensures ∙ film_read a.b.now o.pre.0.1.0 a.i o.pre.2 in
+    let was = c.film_at-old.ensures ∙ film_read a.b.now c.requires.0.1.0 a.i c.requires.2 in
     let change = c.change_with_film.ensures in (
       own_kept a.c.now a.request k (TheFilm a.i) a.name l _ c.film_set_broken-broken.ensures _ c.if-broken-ne0.false
           (c.with_change.ensures.0 k ∙ film_stored k a.i l a.name _ was _ c.film_with-film.ensures _ change),
-      rw (c.with_change.ensures.1, change) o.pre.2,
+      rw (c.with_change.ensures.1, change) c.requires.2,
     )

@@ -4,16 +4,16 @@ use Rattle.rules.specs.Layout.{picture_format, entry_format}
 use Rattle.taking.proofs.Entry.{entry_laid}
 use Rattle.taking.proofs.put_oldest.Goals as goal
 
-bytes : (c : tie.After-shared-slice-known) → Bytes c.before.before.args.records.now
-bytes c i = omega (arith, c.shared-slice-known.given i)
-
 pub overflow_cast-records : goal.overflow_cast-records
-overflow_cast-records c = omega (arith, bytes c 2740)
+overflow_cast-records c =
+    let bytes : Bytes c.args.records.now = λ i. omega (arith, c.shared_slice_known-1.given i) in
+    omega (arith, bytes 2740)
 
 pub returns : goal.returns
 unfolding entry_format picture_format
 returns c =
-    entry_laid c.args.records.now (bytes c) c.requires.1 _ _ _ _ _ c.requires.0
+    let bytes : Bytes c.args.records.now = λ i. omega (arith, c.shared_slice_known-1.given i) in
+    entry_laid c.args.records.now bytes c.requires.1 _ _ _ _ _ c.requires.0
     c.put.ensures
     c.put_number.ensures
     c.uid_filled-uid.ensures

@@ -7,41 +7,57 @@ use Rattle.taking.specs.Oldest.{film_place}
 use Rattle.taking.proofs.Entry.{sent_uid_lem, made_uid}
 use Rattle.taking.proofs.uid_filled.Goals as goal
 
-text_used : (o : tie.Start) → get_or o.args.records.now (film_place + 4) 0 ≤ 64
-unfolding name_format serial_format
-text_used o = o.requires.2
-
-root_used : (o : tie.Start) → get_or o.args.records.now 0 0 ≤ 40
-unfolding numbers_format
-root_used o = o.requires.1
-
 pub overflow_cast-end : goal.overflow_cast-end
-overflow_cast-end c = omega (arith, text_used c)
+unfolding name_format serial_format
+overflow_cast-end c =
+    let text_used : get_or c.args.records.now (film_place + 4) 0 ≤ 64 = c.requires.2 in
+    omega (arith, text_used)
 
 pub overflow_add-end : goal.overflow_add-end
-overflow_add-end c = omega (arith, text_used c)
+unfolding name_format serial_format
+overflow_add-end c =
+    let text_used : get_or c.args.records.now (film_place + 4) 0 ≤ 64 = c.requires.2 in
+    omega (arith, text_used)
 
 pub slice_bounds-sent_filled-end : goal.slice_bounds-sent_filled-end
-slice_bounds-sent_filled-end c = omega (arith, text_used c, c.requires.0)
+unfolding name_format serial_format
+slice_bounds-sent_filled-end c =
+    let text_used : get_or c.args.records.now (film_place + 4) 0 ≤ 64 = c.requires.2 in
+    omega (arith, text_used, c.requires.0)
 
 pub sent_filled-requires : goal.sent_filled-requires
-sent_filled-requires c = rw length-take (omega (arith, text_used c))
+unfolding name_format serial_format
+sent_filled-requires c =
+    let text_used : get_or c.args.records.now (film_place + 4) 0 ≤ 64 = c.requires.2 in
+    rw length-take (omega (arith, text_used))
 
 pub returns-then-made-eq0 : goal.returns-then-made-eq0
 returns-then-made-eq0 c =
     sent_uid_lem c.args.records.now c.requires.0 (sym c.u32_at-made.ensures.0 ∙ c.if-made-eq0.true) c.requires.2 _ c.sent_filled.ensures
 
 pub overflow_cast-end-2 : goal.overflow_cast-end-2
-overflow_cast-end-2 c = omega (arith, root_used c)
+unfolding numbers_format
+overflow_cast-end-2 c =
+    let root_used : get_or c.args.records.now 0 0 ≤ 40 = c.requires.1 in
+    omega (arith, root_used)
 
 pub overflow_add-end-2 : goal.overflow_add-end-2
-overflow_add-end-2 c = omega (arith, root_used c)
+unfolding numbers_format
+overflow_add-end-2 c =
+    let root_used : get_or c.args.records.now 0 0 ≤ 40 = c.requires.1 in
+    omega (arith, root_used)
 
 pub slice_bounds-made_filled-end : goal.slice_bounds-made_filled-end
-slice_bounds-made_filled-end c = omega (arith, root_used c, c.requires.0)
+unfolding numbers_format
+slice_bounds-made_filled-end c =
+    let root_used : get_or c.args.records.now 0 0 ≤ 40 = c.requires.1 in
+    omega (arith, root_used, c.requires.0)
 
 pub made_filled-requires : goal.made_filled-requires
-made_filled-requires c = rw length-take (omega (arith, root_used c))
+unfolding numbers_format
+made_filled-requires c =
+    let root_used : get_or c.args.records.now 0 0 ≤ 40 = c.requires.1 in
+    rw length-take (omega (arith, root_used))
 
 pub returns : goal.returns
 returns c =

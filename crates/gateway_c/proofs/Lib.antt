@@ -1,0 +1,3 @@
+-- What the calls that C links tell, and the promises that they keep.
+pub mod Linked
+pub mod Promises

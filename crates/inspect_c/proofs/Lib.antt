@@ -1,0 +1,2 @@
+-- What the call that C links tells.
+pub mod Linked
