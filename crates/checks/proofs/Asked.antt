@@ -5,7 +5,6 @@ use mathlib.Core.Path.{◌≡◌, ap, ◌∙◌}
 use mathlib.Core.Bool as bool
 use mathlib.Core.Bool.{Bool, true, false}
 use mathlib.Core.List.{List}
-
 use Rattle.choice.specs.Rules.{first_broken}
 use Rattle.headers.specs.declared.Part.{Part}
 use Rattle.rules.specs.declared.Operation.{Operation}

@@ -8,7 +8,6 @@ use native.Mathlib.Numerals.{add-one}
 use native.Mathlib.Omega.{arith}
 use lib.ListN.{length, take, drop, length-take, drop_of_length-le}
 use lib.Seq.{drop-cons, get_or-take}
-
 use Rattle.choice.specs.Pick.{both}
 use Rattle.choice.proofs.Picks.{both_fails, both_only}
 use Rattle.fields.specs.Format.{Format, read_all}

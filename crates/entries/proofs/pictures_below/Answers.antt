@@ -26,8 +26,8 @@ loop-i-preserved c =
     let o = c.loop-i in
     let x = c.picture_below in
     elim c.if-not-picture_below.branch [
-      then-not-picture_below w ↦ o.invariant ∙ flag_not picture_format a.b.now a.p most_boxes most_boxes o.i (λ (x : Picture). ltb x.0 a.next) refl _ refl c.loop-i-test.true (omega arith) x.result x.ensures o.below w.if-not-picture_below.true ∙ rw w.below-is
-    | else-not-picture_below w ↦ o.invariant ∙ flag_on picture_format a.b.now a.p most_boxes most_boxes o.i (λ (x : Picture). ltb x.0 a.next) refl _ refl c.loop-i-test.true (omega arith) x.result x.ensures o.below w.if-not-picture_below.false ∙ rw w.below-is
+      | then-not-picture_below w ↦ o.invariant ∙ flag_not picture_format a.b.now a.p most_boxes most_boxes o.i (λ (x : Picture). ltb x.0 a.next) refl _ refl c.loop-i-test.true (omega arith) x.result x.ensures o.below w.if-not-picture_below.true ∙ rw w.below-is
+      | else-not-picture_below w ↦ o.invariant ∙ flag_on picture_format a.b.now a.p most_boxes most_boxes o.i (λ (x : Picture). ltb x.0 a.next) refl _ refl c.loop-i-test.true (omega arith) x.result x.ensures o.below w.if-not-picture_below.false ∙ rw w.below-is
     ]
 
 pub returns : goal.returns

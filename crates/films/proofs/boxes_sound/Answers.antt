@@ -20,8 +20,8 @@ loop-i-preserved c =
     let o = c.loop-i in
     let x = c.box_sound in
     elim c.if-not-box_sound.branch [
-      then-not-box_sound w ↦ o.invariant ∙ flag_not box_format b a.p most_boxes a.boxes o.i (box_sound a.boxes (numbers_in b)) refl _ refl c.loop-i-test.true c.requires.1 x.result x.ensures o.sound w.if-not-box_sound.true ∙ rw w.sound-is
-    | else-not-box_sound w ↦ o.invariant ∙ flag_on box_format b a.p most_boxes a.boxes o.i (box_sound a.boxes (numbers_in b)) refl _ refl c.loop-i-test.true c.requires.1 x.result x.ensures o.sound w.if-not-box_sound.false ∙ rw w.sound-is
+      | then-not-box_sound w ↦ o.invariant ∙ flag_not box_format b a.p most_boxes a.boxes o.i (box_sound a.boxes (numbers_in b)) refl _ refl c.loop-i-test.true c.requires.1 x.result x.ensures o.sound w.if-not-box_sound.true ∙ rw w.sound-is
+      | else-not-box_sound w ↦ o.invariant ∙ flag_on box_format b a.p most_boxes a.boxes o.i (box_sound a.boxes (numbers_in b)) refl _ refl c.loop-i-test.true c.requires.1 x.result x.ensures o.sound w.if-not-box_sound.false ∙ rw w.sound-is
     ]
 
 pub returns : goal.returns

@@ -90,9 +90,9 @@ returns c =
     let unnamed = rw c.film_named-film.ensures at none in
     let inside : i < length (films_of (shelf_in b)) = omega (arith, long, c.if-count-other.false) in
     let its = names_box (core_in b) (numbers_in b) (session_in b) (shelf_in b) (core_numbers b) (core_session b) (core_shelf b) c.args.uid.now other unnamed
-    serial c.made_serial-serial.ensures fit c.film_with_box-other.ensures inside in
+    serial c.made_serial-serial.ensures fit i c.film_with_box-other.ensures inside in
     let there = box_there (core_in b) (numbers_in b) (session_in b) (shelf_in b) (core_numbers b) (core_session b) (core_shelf b) c.args.uid.now other unnamed
-    serial c.made_serial-serial.ensures fit c.film_with_box-other.ensures inside in
+    serial c.made_serial-serial.ensures fit i c.film_with_box-other.ensures inside in
     (ap (λ (n : ℕ). TheBox i (serial - n)) first ∙ its, rw (core_shelf b, first) (inside, there))
 
 pub overflow_mul-other : goal.overflow_mul-other

@@ -13,8 +13,8 @@ pub loop-i-preserved : goal.loop-i-preserved
 loop-i-preserved c = let o = c.loop-i in
     let h = c.loop-i-test.true in
     elim c.if-s-i-ne0.branch [
-      then-s-i-ne0 w ↦ o.invariant ∙ so_far_not (λ (b : ℕ). eqb b 0) _ 0 o.i o.clear h (ne_eqb _ _ w.if-s-i-ne0.true) ∙ rw w.clear-is
-    | else-s-i-ne0 w ↦ o.invariant ∙ so_far_on (λ (b : ℕ). eqb b 0) _ 0 o.i o.clear h (eq-eqb _ _ w.if-s-i-ne0.false) ∙ rw w.clear-is
+      | then-s-i-ne0 w ↦ o.invariant ∙ so_far_not (λ (b : ℕ). eqb b 0) _ 0 o.i o.clear h (ne_eqb _ _ w.if-s-i-ne0.true) ∙ rw w.clear-is
+      | else-s-i-ne0 w ↦ o.invariant ∙ so_far_on (λ (b : ℕ). eqb b 0) _ 0 o.i o.clear h (eq-eqb _ _ w.if-s-i-ne0.false) ∙ rw w.clear-is
     ]
 
 pub returns : goal.returns

@@ -17,7 +17,7 @@ pub take_refusal-refusal-requires : goal.take_refusal-refusal-requires
 take_refusal-refusal-requires c =
     let bytes : Bytes c.args.records.now = λ i. omega (arith, c.slice_known-1.given i) in
     let accepted : first_broken (records_rules c.args.records.now) ≡ 0 = sym c.refusal-unread.ensures ∙ c.if-unread-ne0.false in
-    (long c.args.records.now bytes, tidy c.args.records.now bytes)
+    (long c.args.records.now bytes accepted, tidy c.args.records.now bytes accepted)
 
 pub returns-then-refusal-ne0 : goal.returns-then-refusal-ne0
 returns-then-refusal-ne0 c =
@@ -44,5 +44,5 @@ returns c =
     let bytes : Bytes c.args.records.now = λ i. omega (arith, c.slice_known-1.given i) in
     let accepted : first_broken (records_rules c.args.records.now) ≡ 0 = sym c.refusal-unread.ensures ∙ c.if-unread-ne0.false in
     let unbroken : first_broken (take_rules (core_in c.args.records.now) (length c.args.entry.now)) ≡ 0 = sym c.take_refusal-refusal.ensures ∙ c.if-refusal-ne0.false in
-    take_done c.args.records.now _ accepted _ _ c.drop_oldest.ensures
+    take_done c.args.records.now _ accepted unbroken _ _ c.drop_oldest.ensures
     (c.put_oldest.ensures ∙ ap (laid _ 0) (taken_bytes c.args.records.now bytes accepted (length c.args.entry.now) unbroken))

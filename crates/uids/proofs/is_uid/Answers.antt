@@ -28,8 +28,8 @@ pub loop-i-preserved : goal.loop-i-preserved
 loop-i-preserved c = let o = c.loop-i in
     let h = c.loop-i-test.true in
     elim c.if-s-i-eq-DOT.branch [
-      then-s-i-eq-DOT+else-not-is_component w ↦ (search rules, search rules, o.invariant.2 ∙ components_dot _ o.from o.i h w.if-s-i-eq-DOT.true ∙ rw (← w.is_component.ensures, w.if-not-is_component.false, w.from-is))
-    | else-s-i-eq-DOT w ↦ (search rules, search rules, o.invariant.2 ∙ components_on _ o.from o.i o.invariant.0 h w.if-s-i-eq-DOT.false ∙ rw w.from-is)
+      | then-s-i-eq-DOT+else-not-is_component w ↦ (search rules, search rules, o.invariant.2 ∙ components_dot _ o.from o.i h w.if-s-i-eq-DOT.true ∙ rw (← w.is_component.ensures, w.if-not-is_component.false, w.from-is))
+      | else-s-i-eq-DOT w ↦ (search rules, search rules, o.invariant.2 ∙ components_on _ o.from o.i o.invariant.0 h w.if-s-i-eq-DOT.false ∙ rw w.from-is)
     ]
 
 pub returns : goal.returns
