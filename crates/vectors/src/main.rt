@@ -10,6 +10,9 @@ use headers::{Inside, Part, Scope, Syntax};
 use std::rt::Files;
 use std::{env, fs, io};
 
+// So many bytes of a file are read at most.
+const MOST: usize = 4096;
+
 const NAMED: [usize; 35] = [
     0x0000_0000,
     0x0000_0002,
@@ -256,7 +259,11 @@ fn report_file<R: Files + Print + Alloc>(rt: &R, name: &str, named: &str) -> io:
     print!(rt; "{name} {named}")?;
     let syntax = syntax_named(named.as_bytes().first().copied().unwrap_or(0));
     let bytes = fs::read(rt, name)?;
-    report(rt, bytes.as_slice(), syntax)
+    let all = bytes.as_slice();
+    if all.len() < MOST {
+        return report(rt, all, syntax);
+    }
+    report(rt, &all[..MOST], syntax)
 }
 
 fn main(rt: HostRuntime) -> io::Result<()> {
