@@ -1,4 +1,4 @@
-# To be sourced. Archives of `rt staticlib` are for x86-64: on another machine a cross compiler builds the programs that
+# To be sourced. Archives of `rt lib` are for x86-64: on another machine a cross compiler builds the programs that
 # link them and an emulator runs them. They are Debian's, and installed where they are missing.
 . "${BASH_SOURCE[0]%/*}/archive.sh"
 if [ "$(uname -m)" = x86_64 ]; then

@@ -35,9 +35,10 @@ def try_rows(there):
 
 def texts():
     """All that may cite a rule, but for what was made."""
-    parts = [part for part in TOP.iterdir() if part.name not in {".git", "target"}]
+    made = {".git", "target", "out"}
+    parts = [part for part in TOP.iterdir() if part.name not in made]
     files = [part for part in parts if part.is_file()] + [path for part in parts if part.is_dir() for path in part.rglob("*")]
-    return sorted(path for path in files if path.suffix in CITING and path.is_file())
+    return sorted(path for path in files if path.suffix in CITING and not made & {*path.relative_to(TOP).parts} and path.is_file())
 
 
 def try_cited(there):
@@ -58,23 +59,23 @@ def sums():
     """The rules' numbers: a rule, its words, and what the definitions say in their places."""
     layout = Layout(TOP)
     bound = layout.number
-    uid = int(re.search(r"^isUid s = both \(leb \(length s\) (\d+)\)", definitions("uids/specs/Uids"), re.M)[1])
-    copies = int(re.search(r"countIn (\d+) v", definitions("rules/specs/Attributes"))[1])
-    label = int(re.search(r"^labelAllowed v = both \(leb \(length \(trimmed v\)\) (\d+)\)", definitions("rules/specs/Values"), re.M)[1])
+    uid = int(re.search(r"^is_uid s = both \(leb \(length s\) (\d+)\)", definitions("uids/specs/Uids"), re.M)[1])
+    copies = int(re.search(r"count_in (\d+) v", definitions("rules/specs/Attributes"))[1])
+    label = int(re.search(r"^label_allowed v = both \(leb \(length \(trimmed v\)\) (\d+)\)", definitions("rules/specs/Values"), re.M)[1])
     return [
-        ("2.1", "at most {} bytes", [bound("commandLimit")]),
-        ("2.2", "{} to {} bytes", [bound("leastRoom"), bound("mostRoom")]),
+        ("2.1", "at most {} bytes", [bound("command_limit")]),
+        ("2.2", "{} to {} bytes", [bound("least_room"), bound("most_room")]),
         ("2.3", "at least {} bytes for a response's command, {} for its data set and {} for the report of a feed, and {} for the entry",
-         [bound(room) for room in ("commandRoom", "dataRoom", "reportRoom", "entryRoom")]),
+         [bound(room) for room in ("command_room", "data_room", "report_room", "entry_room")]),
         ("2.4", "at most **{} session**, with at most {} films, each with at most {} boxes. The **queue** has at most {} entries",
-         [bound(most) for most in ("mostSessions", "mostFilms", "mostBoxes", "mostEntries")]),
+         [bound(most) for most in ("most_sessions", "most_films", "most_boxes", "most_entries")]),
         ("2.5", "**UID** has 1 to {} characters", [uid]),
-        ("2.5", "a UID of at most {} characters", [bound("rootLimit")]),
-        ("2.6", "from 1 to {}", [bound("noneLeft") - 1]),
+        ("2.5", "a UID of at most {} characters", [bound("root_limit")]),
+        ("2.6", "from 1 to {}", [bound("none_left") - 1]),
         ("3.12", "in {} bytes and removes it: {} picture numbers of {} bytes, ticket and copies of {} each",
-         [bound("entryRoom"), bound("mostBoxes"), layout.bytes("picture"), bound("copiesPlace") - bound("ticketPlace")]),
-        ("3.12", "filled with zeros to {}", [bound("entryRoom") - bound("uidPlace")]),
-        ("4.6", "Past {} bytes", [bound("commandLimit")]),
+         [bound("entry_room"), bound("most_boxes"), layout.bytes("picture"), bound("copies_place") - bound("ticket_place")]),
+        ("3.12", "filled with zeros to {}", [bound("entry_room") - bound("uid_place")]),
+        ("4.6", "Past {} bytes", [bound("command_limit")]),
         ("5.10", "{} of them", [len(table("forms"))]),
         ("5.14", "One table of {} tags", [len(table("named"))]),
         ("7.1", "1 to {}", [copies]),
@@ -102,7 +103,7 @@ def octets(name):
 
 def words():
     """Texts that must stand in a rule as they are."""
-    for name in ("verificationClass", "sessionClass", "filmClass", "boxClass"):
+    for name in ("verification_class", "session_class", "film_class", "box_class"):
         yield "1.1", "| " + re.search(rf'^{name} = chars "(.*)"', definitions("rules/specs/Text"), re.M)[1] + " |"
     yield "5.10", " ".join(vr for vr, _ in table("forms")) + "."
     yield "5.10", "Those of the long form, " + " ".join(vr for vr, size in table("forms") if size == "12") + ","
@@ -110,7 +111,7 @@ def words():
     for rule, name in (("7.1", "priorities"), ("7.1", "media"), ("7.1", "destinations"), ("7.4", "orientations"),
                        ("7.4", "magnifications"), ("7.7", "polarities"), ("7.9", "photometrics")):
         yield rule, ", ".join(codes(name))
-    fields = dict(re.findall(r"^fieldOf \((\w+) r\) = 0x(\w+)$", definitions("rules/specs/Checks"), re.M))
+    fields = dict(re.findall(r"^field_of \((\w+) r\) = 0x(\w+)$", definitions("rules/specs/Checks"), re.M))
     for name, operation in (("Echo", "C-ECHO"), ("Create", "N-CREATE"), ("Set", "N-SET"), ("Act", "N-ACTION"), ("Delete", "N-DELETE")):
         yield "6.15", f"| {fields[name]}H | {operation} |"
 
@@ -127,7 +128,7 @@ def try_said(there):
 def try_statuses(there):
     """The statuses of checks 1 to 11 are those that the definitions give."""
     text = definitions("rules/specs/Checks") + definitions("rules/specs/Attributes")
-    given = {"0000", *re.findall(r"(?:⇒|printedWith k|saysUnknown message field\)|\(StoppedAt stop\)) 0x(\w{4})\b", text)}
+    given = {"0000", *re.findall(r"(?:⇒|printed_with k|says_unknown message field\)|\(StoppedAt stop\)) 0x(\w{4})\b", text)}
     said = {status for check in range(1, 12) for status in re.findall(r"\b([0-9A-F]{4})H", there[f"6.{check}"])}
     if given != said:
         yield f"docs/RULES.md: checks 1 to 11 have {sorted(said - given)} more and {sorted(given - said)} less than the definitions"

@@ -12,7 +12,7 @@ KINDS = ("number", "letter", "exchanged", "test", "branches", "left out", "row",
 # what the library has: the types of arguments, and of the result
 LIBRARY = {
     "eqb": (["ℕ", "ℕ"], "Bool"), "leb": (["ℕ", "ℕ"], "Bool"), "ltb": (["ℕ", "ℕ"], "Bool"), "suc": (["ℕ"], "ℕ"),
-    "length": (["List A"], "ℕ"), "getD": (["List A", "ℕ", "A"], "A"), "take": (["ℕ", "List A"], "List A"),
+    "length": (["List A"], "ℕ"), "get_or": (["List A", "ℕ", "A"], "A"), "take": (["ℕ", "List A"], "List A"),
     "drop": (["ℕ", "List A"], "List A"), "replicate": (["ℕ", "A"], "List A"), "set": (["List A", "ℕ", "A"], "List A"),
     "map": (["A → B", "List A"], "List B"),
 }
@@ -22,8 +22,9 @@ EVEN = {"eqb", "both", "either", "same", "pick"}
 # that are tested for zeros
 UNORDERED = {"List Bool", "List Standing", "List Row"}
 # a word, the one that it is exchanged with, and where that one stands
-OTHER = {"both": ("either", "Pick"), "either": ("both", "Pick"), "ltb": ("leb", "lib.Dec"), "leb": ("ltb", "lib.Dec"),
-         "every": ("any", "Lists"), "any": ("every", "Lists"), "take": ("drop", "lib.ListN"), "drop": ("take", "lib.ListN")}
+OTHER = {"both": ("either", "Pick"), "either": ("both", "Pick"), "ltb": ("leb", "Prelude"), "leb": ("ltb", "Prelude"),
+         "every": ("any", "Lists"), "any": ("every", "Lists"), "take": ("drop", "Prelude"), "drop": ("take", "Prelude")}
+MODULES = {"Pick": "Rattle.choice.specs.Pick", "Lists": "Rattle.rules.specs.Lists", "Prelude": "Rattle.std.specs.Prelude"}
 SIGNS = {"+": "-", "-": "+", "/": "%", "%": "/", "<": "≤", "≤": "<"}
 NUMERIC = {"+", "-", "*", "/", "%", "^"}
 
@@ -77,7 +78,7 @@ class Book:
         """The file of the book that a name of a file stands in."""
         if name in file.signatures:
             return file
-        found = re.match(r"Rattle·(\w+?)(?:·specs)?\.specs\.(?:specs\.)?(\w+)$", file.uses.get(name, ""))
+        found = re.match(r"Rattle\.(\w+)\.specs\.(\w+)$", file.uses.get(name, ""))
         return self.paths.get(f"crates/{found[1]}/specs/{found[2]}.antt") if found else None
 
     def signature(self, file, name):
@@ -143,10 +144,7 @@ class Changes:
         for line in re.finditer(r"^use (\S+?)\.\{", file.text, re.M):
             if line[1] == module or line[1].endswith(f".{module}"):
                 return [(line.end(), line.end(), f"{name}, ")]
-        if module == "Pick":
-            module = "Rattle·choice.specs.Pick"
-        elif module == "Lists":
-            module = "Rattle·rules·specs.specs.Lists"
+        module = MODULES.get(module, module)
         at = re.search(r"^use ", file.text, re.M).start()
         return [(at, at, f"use {module}.{{{name}}}\n")]
 
@@ -230,7 +228,7 @@ class Changes:
             yield self.change("test", part, other, *self.bring(other, module))
         if word in ("true", "false"):
             other = "false" if word == "true" else "true"
-            yield self.change("name", part, other, *self.bring(other, "mathlib.Core.Bool"))
+            yield self.change("name", part, other, *self.bring(other, "Prelude"))
             return
         if word in self.types:
             return
@@ -268,8 +266,8 @@ class Changes:
         old = [one.parts[0].name for name, one in zip(names, part.parts)
                if one.kind == "field" and one.name == name and one.parts[0].kind == "name"]
         for name, one in zip(names, part.parts):
-            if old and self.text(one) != f"{old[0]} .{name}":
-                yield self.change("left out", one, f"{old[0]} .{name}")
+            if old and self.text(one) != f"{old[0]}.{name}":
+                yield self.change("left out", one, f"{old[0]}.{name}")
 
     def chain(self, part, above):
         signs = [sign for sign, _, _ in part.name]
@@ -288,7 +286,7 @@ class Changes:
         for i, (sign, start, end) in enumerate(part.name):
             one, other = part.parts[i], part.parts[i + 1]
             if sign in SIGNS:
-                brought = self.bring(f"_{SIGNS[sign]}_", "Prim.Native.Nat")
+                brought = self.bring(f"◌{SIGNS[sign]}◌", "Prelude")
                 yield Change(self.file, "test", start, [(start, end, SIGNS[sign]), *brought])
             if sign in ("-", "/", "%", "^", "<", "≤", "then", "is"):
                 yield from self.exchange("exchanged", one, other)
@@ -311,7 +309,7 @@ class Changes:
         for i, (one, other) in enumerate(zip(given, given[1:])):
             if head.name not in EVEN and i + 1 < len(arguments):
                 a, b = arguments[i], arguments[i + 1]
-                if a == b or head.name == "getD" and i == 1:
+                if a == b or head.name == "get_or" and i == 1:
                     yield from self.exchange("exchanged", one, other)
         if len(given) == len(arguments):
             for one, typed in zip(given, arguments):

@@ -1,6 +1,5 @@
 """A room outside the repository in which the book is changed and checked: which check refuses a change, and by what."""
 import os
-import platform
 import re
 import shutil
 import signal
@@ -19,7 +18,7 @@ CLAIMS = ("rules", "pinned")
 LIMIT = 120
 ERROR = re.compile(r"^(/.*?):(\d+):\d+: error(?:\[[^\]]*\])?: (.*)$")
 # an error that only says that what is cited was refused
-FOLLOWS = re.compile(r"was not admitted|that can be named from here")
+FOLLOWS = re.compile(r"was not admitted|(?:was|were) not checked|that can be named from here")
 COMPUTED = re.compile(r"(?:refl|tt|[\s(),])*")
 
 
@@ -44,7 +43,6 @@ class Room:
     def __init__(self, top, folder):
         self.folder = Path(folder)
         self.kit = kit()
-        self.own = self.kit / "on" / platform.machine()
         self.needs = {}
         for line in (Path(top) / "crates.txt").read_text(encoding="utf-8").splitlines():
             name, colon, needs = line.partition("#")[0].partition(":")
@@ -84,11 +82,11 @@ class Room:
     def run(self, crate, limit=LIMIT):
         """The status of a check, with all below as source, and what it said. The status is none where it took too long."""
         sources, libraries = self.below(crate)
-        words = [self.own / "bin/rattle", "check", "--crate-name", crate, self.root(crate)]
-        words += [word for name in ["std"] + libraries for word in ("--extern", f"{name}={self.own}/rlib/{name}.rlib")]
+        words = [self.kit / "bin/rattle", "check", "--crate-name", crate, self.root(crate)]
+        words += [word for name in ["core", "std"] + libraries for word in ("--extern", f"{name}={self.kit}/rlibs/{name}.rlib")]
         words += [word for name in sources for word in ("--lib", f"{name}={self.root(name)}")]
-        words += ["-L", f"dependency={self.own}/rlib", "--antt-project", self.kit / "logic/antt-project.json"]
-        words += ["--logic-built", self.own / "logic-built", "--incremental", self.folder / "checked"]
+        words += ["-L", f"dependency={self.kit}/rlibs", "--antt-project", self.kit / "rattle/logic/antt-project.json"]
+        words += ["--logic-built", self.kit / "logic_built", "--incremental", self.folder / "checked"]
         if self.ended:
             return None, ""
         with subprocess.Popen([str(word) for word in words], stdout=subprocess.PIPE, stderr=subprocess.STDOUT,

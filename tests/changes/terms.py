@@ -25,7 +25,14 @@ class Part:
             yield from part.walk(above + (self,))
 
 
-def tokens(text, start, end):
+def names(word, aliases):
+    """A name and the fields behind it, each with its dot; a module's other name belongs to the name behind it."""
+    first, *fields = re.findall(r"^\.?[^.]+|\.[^.]+", word)
+    return [first + fields[0], *fields[1:]] if fields and first in aliases else [first, *fields]
+
+
+def tokens(text, start, end, aliases=()):
+    """`aliases` are the other names of modules."""
     found, at = [], start
     while at < end:
         token = TOKEN.match(text, at, end)
@@ -34,10 +41,16 @@ def tokens(text, start, end):
         word, at = token.group(), token.end()
         if token.lastgroup == "skip":
             continue
-        if token.lastgroup == "word" and len(word) > 1 and word.endswith("."):
-            found += [(word[:-1], token.start(), token.end() - 1), (".", token.end() - 1, token.end())]
-        else:
+        stop = token.lastgroup == "word" and len(word) > 1 and word.endswith(".")
+        if token.lastgroup != "word" or word == ".":
             found.append((word, token.start(), token.end()))
+            continue
+        first = token.start()
+        for part in names(word[:-1] if stop else word, aliases):
+            found.append((part, first, first + len(part)))
+            first += len(part)
+        if stop:
+            found.append((".", token.end() - 1, token.end()))
     return found
 
 
@@ -81,9 +94,8 @@ class Reader:
             elif word == "{":
                 atoms.append(self.implicit())
             elif word.startswith(".") and len(word) > 1:
-                before = applied()
                 _, _, end = self.take()
-                atoms = [Part("field", before.start, end, [before], word[1:])]
+                atoms[-1:] = [Part("field", atoms[-1].start, end, atoms[-1:], word[1:])]
             else:
                 _, start, end = self.take()
                 kind = "text" if word.startswith('"') else "number" if NUMBER.fullmatch(word) else "name"
@@ -199,11 +211,12 @@ class File:
     def __init__(self, path, text):
         self.path, self.text = path, text
         self.uses, self.signatures, self.data, self.records, self.clauses = {}, {}, {}, {}, []
+        self.aliases = set(re.findall(r"^use \S+ as (\S+)$", text, re.M))
         spans = items(text)
         for start, end in spans:
             self.declared(text[start:end].strip())
         own = set(self.uses) | set(self.signatures) | {name for rows in self.data.values() for name, _ in rows}
-        self.signs = ALWAYS | {name.strip("_") for name in own if re.fullmatch(r"_[^_]+_", name)}
+        self.signs = ALWAYS | {name.strip("◌") for name in own if re.fullmatch(r"◌[^◌]+◌", name)}
         for start, end in spans:
             item = text[start:end].strip()
             if item.startswith("pub record "):
@@ -238,11 +251,11 @@ class File:
     def statements(self, name, start, end):
         """The fields of a record that state something, each as a right side."""
         for field in re.finditer(r"^\s+pub \S+ : (.*[≡≤<].*)$", self.text[start:end], re.M):
-            body = Reader(tokens(self.text, start + field.start(1), start + field.end(1)), self.signs).term()
+            body = Reader(tokens(self.text, start + field.start(1), start + field.end(1), self.aliases), self.signs).term()
             self.clauses.append(Clause(name, [], body))
 
     def clause(self, start, end):
-        words = tokens(self.text, start, end)
+        words = tokens(self.text, start, end, self.aliases)
         depth = 0
         for i, (word, _, _) in enumerate(words):
             depth += (word in "({") - (word in ")}") if len(word) == 1 else 0

@@ -3,7 +3,7 @@ import re
 
 BOUND = re.compile(r"^abbrev pub (\w+) : ℕ\n\1 = (.+)$", re.M)
 CODES = re.compile(r"^abbrev pub (\w+) : List \(List ℕ\)\n\1 = (.+)$", re.M)
-FORMAT = re.compile(r"^unfoldable pub (\w+)Format : Format \w+\n\1Format =(.*?)\n(?=\n|\Z)", re.M | re.S)
+FORMAT = re.compile(r"^unfoldable pub (\w+)_format : Format \w+\n\1_format =(.*?)\n(?=\n|\Z)", re.M | re.S)
 
 
 class Field:
@@ -45,7 +45,7 @@ class Layout:
             elif c == ")" and (depth := depth - 1) == 0:
                 groups.append(body[start:i])
         _, fields, formats = groups
-        return re.findall(r"x \.(\w+)", fields), formats.split(" then ")
+        return re.findall(r"x\.(\w+)", fields), formats.split(" then ")
 
     def part(self, text):
         """How many there are, where it is an array, of which format, and the bytes of one."""
@@ -57,7 +57,7 @@ class Layout:
         if word == "array":
             count, of = rest[0].split(" ", 1)
             return (self.number(count), *self.part(of)[1:])
-        return None, word.removesuffix("Format"), self.bytes(word.removesuffix("Format"))
+        return None, word.removesuffix("_format"), self.bytes(word.removesuffix("_format"))
 
     def fields(self, name):
         names, formats = self.formats[name]

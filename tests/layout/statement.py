@@ -3,48 +3,48 @@ attributes and their defaults, the statuses of each service in the order of the 
 import re
 
 CONFORMANCE, HOST, RECORDS = "docs/CONFORMANCE.md", "docs/HOST.md", "docs/RECORDS.md"
-CLASSES = {"Verification": "verificationClass", "Basic Film Session": "sessionClass", "Basic Film Box": "filmClass",
-           "Basic Grayscale Image Box": "boxClass"}
+CLASSES = {"Verification": "verification_class", "Basic Film Session": "session_class", "Basic Film Box": "film_class",
+           "Basic Grayscale Image Box": "box_class"}
 # The cases of `offers`, as the table of operations has its rows and columns.
 CASES = {"Verification": "Verification", "Basic Film Session": "Sessions", "Basic Film Box": "Films",
          "Basic Grayscale Image Box": "Boxes"}
 OPERATIONS = ["Echo", "Create", "Set", "Act", "Delete"]
 # An attribute with texts: their list, the definition of what is new, its field there, and its name in docs/RECORDS.md.
 TEXTS = {
-    "Print Priority": ("priorities", "newSession", "priority", "Priority"),
-    "Medium Type": ("media", "newSession", "medium", "Medium"),
-    "Film Destination": ("destinations", "newSession", "destination", "Destination"),
-    "Film Orientation": ("orientations", "newFilm", "orientation", "Orientation"),
-    "Magnification Type": ("magnifications", "newFilm", "magnification", "Magnification"),
-    "Polarity": ("polarities", "newBox", "polarity", "Polarity"),
+    "Print Priority": ("priorities", "new_session", "priority", "Priority"),
+    "Medium Type": ("media", "new_session", "medium", "Medium"),
+    "Film Destination": ("destinations", "new_session", "destination", "Destination"),
+    "Film Orientation": ("orientations", "new_film", "orientation", "Orientation"),
+    "Magnification Type": ("magnifications", "new_film", "magnification", "Magnification"),
+    "Polarity": ("polarities", "new_box", "polarity", "Polarity"),
 }
 # The tables of statuses in their order: the definitions whose rules they have, and the statuses that no request of it can get.
-CREATE, TARGET, NO_MANDATORY = ["createRules"], ["targetRules"], {"0120H", "0121H"}
+CREATE, TARGET, NO_MANDATORY = ["create_rules"], ["target_rules"], {"0120H", "0121H"}
 STATUSES = [
     ("Verification, C-ECHO", [], set()),
-    ("Basic Film Session, N-CREATE", [*CREATE, "newSessionRules"], NO_MANDATORY),
-    ("Basic Film Session, N-SET", [*TARGET, "attributeRules"], NO_MANDATORY),
-    ("Basic Film Session, N-ACTION", [*TARGET, "planOf", "sessionPrintRules", "TheSession"], set()),
+    ("Basic Film Session, N-CREATE", [*CREATE, "new_session_rules"], NO_MANDATORY),
+    ("Basic Film Session, N-SET", [*TARGET, "attribute_rules"], NO_MANDATORY),
+    ("Basic Film Session, N-ACTION", [*TARGET, "plan_of", "session_print_rules", "TheSession"], set()),
     ("Basic Film Session, N-DELETE", TARGET, set()),
-    ("Basic Film Box, N-CREATE", [*CREATE, "newFilmRules"], set()),
-    ("Basic Film Box, N-SET", [*TARGET, "attributeRules"], NO_MANDATORY),
-    ("Basic Film Box, N-ACTION", [*TARGET, "planOf", "filmPrintRules", "TheFilm"], set()),
+    ("Basic Film Box, N-CREATE", [*CREATE, "new_film_rules"], set()),
+    ("Basic Film Box, N-SET", [*TARGET, "attribute_rules"], NO_MANDATORY),
+    ("Basic Film Box, N-ACTION", [*TARGET, "plan_of", "film_print_rules", "TheFilm"], set()),
     ("Basic Film Box, N-DELETE", TARGET, set()),
-    ("Basic Grayscale Image Box, N-SET", [*TARGET, "boxRules"], set()),
-    ("every request", ["decideCommand", "generalRules", "unlessStopped"], set()),
+    ("Basic Grayscale Image Box, N-SET", [*TARGET, "box_rules"], set()),
+    ("every request", ["decide_command", "general_rules", "unless_stopped"], set()),
 ]
 # The definitions of each call's lines, and what feed returns beside them: answers by the names of their cases, a wrong header.
 CALLS = {
-    "start": ["shortRules", "startRules"], "open": ["recordsRules", "shortRules", "openRules"],
-    "feed": ["recordsRules", "shortRules", "feedRules"], "close": ["recordsRules", "shortRules", "closeRules"],
-    "take": ["recordsRules", "shortRules", "takeRules"],
+    "start": ["short_rules", "start_rules"], "open": ["records_rules", "short_rules", "open_rules"],
+    "feed": ["records_rules", "short_rules", "feed_rules"], "close": ["records_rules", "short_rules", "close_rules"],
+    "take": ["records_rules", "short_rules", "take_rules"],
 }
 ANSWERS, WRONG_HEADER = ["wait", "dropped", "ignored", "failure"], 5
 # The states in the order of their numbers, as docs/RECORDS.md calls them.
-STATES = {"idle": "idle", "inCommand": "in command", "skippingCommand": "skipping command", "inData": "in data",
-          "skippingData": "skipping data"}
+STATES = {"idle": "idle", "in_command": "in command", "skipping_command": "skipping command", "in_data": "in data",
+          "skipping_data": "skipping data"}
 # The definitions that judge attributes; what is optional there begins with this word.
-STANDINGS = ["sessionStandings", "filmCreateStandings", "referenceStandings", "optionalFilm", "boxStandings", "imageStandings"]
+STANDINGS = ["session_standings", "film_create_standings", "reference_standings", "optional_film", "box_standings", "image_standings"]
 BITS = {"Bits Allocated": "0x0028_0100", "Bits Stored": "0x0028_0101", "High Bit": "0x0028_0102"}
 STATUS_HEAD = "| Code | Kind | Meaning | When | What the console does |"
 DEFINITION = re.compile(r"^(?:abbrev|unfoldable) pub ([\w-]+) : .*\n((?:.+\n)+)", re.M)
@@ -79,18 +79,18 @@ class Book:
 
     def warning(self, instance):
         """What check 11 gives where this instance is printed."""
-        return re.search(rf"actionPlan k \(?{instance}\b.*?printedWith k 0x(\w+)", self.texts["actionPlan"], re.S)[1] + "H"
+        return re.search(rf"action_plan k \(?{instance}\b.*?printed_with k 0x(\w+)", self.texts["action_plan"], re.S)[1] + "H"
 
     def codes(self, name):
         """The statuses of a definition's rules, in their order, behind those of attributes where it has these."""
         if name.startswith("The"):
             return [self.warning(name)]
         text = self.texts[name]
-        found = [f"{code}H" for code in re.findall(r"(?:⇒|saysUnknown message field\)|\(StoppedAt stop\)) 0x(\w+)", text)]
-        return self.codes("attributeRules") + found if "attributeRules (" in text else found
+        found = [f"{code}H" for code in re.findall(r"(?:⇒|says_unknown message field\)|\(StoppedAt stop\)) 0x(\w+)", text)]
+        return self.codes("attribute_rules") + found if "attribute_rules (" in text else found
 
     def kind(self, code):
-        warnings = re.findall(r"0x(\w+)", self.texts["isWarning"])
+        warnings = re.findall(r"0x(\w+)", self.texts["is_warning"])
         return "success" if code == "0000H" else "warning" if code[:-1] in warnings else "failure"
 
 
@@ -156,8 +156,8 @@ def try_values(book, text, records):
     for name in ("Bits Stored", "High Bit"):
         yield row_ends(text, name, f"with {allocated[0]} bits allocated {few[name]}, with {allocated[1]} {many[name]}")
     for name, tag in (("Samples per Pixel", "0x0028_0002"), ("Pixel Representation", "0x0028_0103")):
-        yield row_ends(text, name, str(book.tested("imageStandings", tag)))
-    action = re.search(r"eqb \(r \.kind\) (\d+)", book.texts["planOf"])[1]
+        yield row_ends(text, name, str(book.tested("image_standings", tag)))
+    action = re.search(r"eqb r\.kind (\d+)", book.texts["plan_of"])[1]
     for said in ("Action type {} prints all films", "Action type {} prints the film", "the action type is not {} "):
         yield stands(CONFORMANCE, text, said.format(action))
 
@@ -189,7 +189,7 @@ def returned(book):
         for number in (n for name in definitions for n in re.findall(r"⇒ (\d+)\)", book.texts[name])):
             calls.setdefault(int(number), set()).add(call)
     for case in ANSWERS:
-        calls[int(re.search(rf"numberOf \(?{case}\b[^=]*= (\d+)", book.texts["numberOf"])[1])] = {"feed"}
+        calls[int(re.search(rf"number_of \(?{case}\b[^=]*= (\d+)", book.texts["number_of"])[1])] = {"feed"}
     return calls
 
 
@@ -206,7 +206,7 @@ def try_calls(book, host, header):
 
 
 def try_states(book, records):
-    codes = [re.search(rf"inputHeld \(?{case}\b[^=]*= held (\d)", book.texts["inputHeld"])[1] for case in STATES]
+    codes = [re.search(rf"input_held \(?{case}\b[^=]*= held (\d)", book.texts["input_held"])[1] for case in STATES]
     yield stands(RECORDS, records, ", ".join(f"{code} {said}" for code, said in zip(codes, STATES.values())))
 
 

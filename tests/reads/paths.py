@@ -8,7 +8,7 @@ JOINING = {";", ",", ":", ".", "..", "=", "==", "!=", "<", "<=", ">", ">=", "+",
 WORDS = {"let", "mut", "as", "true", "false", "self"}
 REFUSED = {"break", "continue", "for", "unsafe", "fn", "move", "dyn"}
 # Methods and functions of the kit: a length, a copy of bytes, a sum.
-OF_THE_KIT = {"len", "bytes::copy", "std::num::wrapping_add_u16"}
+OF_THE_KIT = {"len", "copy_from_slice", "std::num::wrapping_add_u16"}
 
 
 class Paths:

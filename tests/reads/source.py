@@ -99,7 +99,7 @@ class Crate:
         while i < len(tokens):
             word = tokens[i]
             if word == "#":
-                i += 2
+                i += 3 if tokens[i + 1] == "!" else 2
             elif word in ("pub", "extern") or is_group(word, "(") or word == '"C"':
                 i += 1
             elif word == "fn":
@@ -118,9 +118,13 @@ class Crate:
                 raise Unread(f"{self.name}: '{word}' begins nothing that is known")
 
     def read_import(self, path):
-        if not all(isinstance(token, str) for token in path) or "as" in path:
-            raise Unread(f"{self.name}: an import of several names, or of another name")
-        self.imports[path[-1]] = "".join(path)
+        *front, last = path
+        names = split(last.inside, ",") if is_group(last, "{") else [[last]]
+        known = "as" not in front and all(isinstance(token, str) for token in front)
+        if not known or not all(len(name) == 1 and is_name(name[0]) for name in names):
+            raise Unread(f"{self.name}: an import of another name, or of groups within groups")
+        for name in names:
+            self.imports[name[0]] = "".join([*front, *name])
 
     def read_type(self, tokens, i):
         name, body = tokens[i + 1], tokens[i + 2]
@@ -129,10 +133,10 @@ class Crate:
         return i + (3 if is_group(body, "{") else 4)
 
     def read_function(self, tokens, i, prefix):
-        """A function behind its fn. Its body is the group behind its type and its clauses."""
+        """A function behind its fn. Its body is the group behind its type and its clauses, which may have names."""
         name, parameters = tokens[i], tokens[i + 1]
         i += 2
-        while not is_group(tokens[i], "{") or tokens[i - 1] in CLAUSES:
+        while not is_group(tokens[i], "{") or tokens[i - 1] in CLAUSES or (is_name(tokens[i - 1]) and tokens[i - 2] in CLAUSES):
             i += 1
         if tokens[i + 1:i + 2] and tokens[i + 1] not in ("pub", "fn", "#", "const", "use", "ghost", "struct", "enum", "impl"):
             raise Unread(f"{self.name}::{name}: '{tokens[i + 1]}' behind its body")

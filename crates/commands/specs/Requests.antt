@@ -1,4 +1,4 @@
--- The request of each field, as the book's `requestIn` has it.
+-- The request of each field, as the book's `request_in` has it.
 use Rattle.std.specs.Prelude.{ℕ, Bool, List, ltb}
 use Rattle.choice.specs.Pick.{pick, both}
 use Rattle.rules.specs.declared.Command.{Command}

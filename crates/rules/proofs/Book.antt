@@ -1,4 +1,4 @@
--- Every definition of the book, and of what it stands on, under one name: a claim that is computed says `unfolding theBook`.
+-- Every definition of the book, and of what it stands on, under one name: a claim that is computed says `unfolding the_book`.
 -- Assumes nothing.
 use Rattle.octets.specs.Octets.{number_at, octets, same}
 use Rattle.uids.specs.Uids.{digits, component, components, is_uid, unpadded, begins_with, last_digits, decimal, made}

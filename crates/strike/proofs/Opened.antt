@@ -1,4 +1,4 @@
--- The machine and the messages, each under one name: a claim that is computed says `unfolding theMachine theMessages`.
+-- The machine and the messages, each under one name: a claim that is computed says `unfolding the_machine the_messages`.
 -- Assumes nothing.
 use Rattle.octets.specs.Octets.{big_number_at}
 use Rattle.strike.specs.Machine.{header_wrong, fragment_in, skips, reads, gathers, overflows, stores, collect, laid_by, answered, carried_out, fed, checked, step, laid_if, message_after}
