@@ -4,16 +4,19 @@ Replies are the second program's; where the console foretold one, they must agre
 Writes too which traces crates/traces is to replay, and what it is to say of them."""
 import os
 import random
+import shutil
 import sys
 
 import damages
 from examples import EXAMPLES
 from generate import *
-from program import ROOT, Run
+from program import HERE, ROOT, Run
 from stopped import BY_HAND
 
 CRATE = os.path.join(ROOT, "crates", "traces")
 KEPT = os.path.join(CRATE, "data")
+# the same beside this, for the other tests
+COPY = os.path.join(HERE, "kept")
 
 # The longest message buffer that crates/traces lends: it makes no open that lends more.
 LENT = 65537
@@ -334,6 +337,8 @@ def main():
             write(os.path.join(KEPT, f"{name}.{ending}"), rows)
             args.append(f"{name}.{ending}")
         stdout.append(said(name, c.lines))
+    shutil.rmtree(COPY)
+    shutil.copytree(KEPT, COPY)
     write(os.path.join(CRATE, "args"), args)
     write(os.path.join(CRATE, "stdout"), stdout)
 
