@@ -60,8 +60,8 @@ fn implicit_head(s: &[u8], end: usize, at: usize, floor: usize) -> Head
 
 // The header of an element in explicit VR with a long-form VR.
 fn long_head(s: &[u8], end: usize, at: usize, floor: usize) -> Head
-    requires at_bound { (at + 8 ≤ end) × (end ≤ length s.now) × (number_at 2 s.now at ≡ 0xFFFE → ⊥) }
-    requires at_value { form_of (number_at 2 s.now (at + 4)) ≡ 12 }
+    requires in_place { (at + 8 ≤ end) × (end ≤ length s.now) × (number_at 2 s.now at ≡ 0xFFFE → ⊥) }
+    requires long_form { form_of (number_at 2 s.now (at + 4)) ≡ 12 }
     ensures { result ≡ head_at s.now Explicit end at floor }
 {
     if end - at < 12 {

@@ -7,7 +7,7 @@ use borrow.Author.Rules.{rules}
 use Rattle.syntaxes.proofs.explicit_head.Goals as goal
 
 pub long_head-requires : goal.long_head-requires
-long_head-requires c = record { at_bound = search rules; at_value = rw c.u16_at-vr.ensures.0 at (sym c.form_of-form.ensures ∙ c.if-form-eq12.true) }
+long_head-requires c = record { in_place = search rules; long_form = rw c.u16_at-vr.ensures.0 at (sym c.form_of-form.ensures ∙ c.if-form-eq12.true) }
 
 pub returns-then-tag-floor : goal.returns-then-tag-floor
 unfolding head_at size_at vr_at length_at vr_wrong
