@@ -26,7 +26,7 @@ pub extern "C" fn gateway_feed(
     data_set: &mut [u8],
     report: &mut [u8],
 ) -> u32
-    ensures { FeedMet (record { records = records.entry.now; message = message.old; command = command.old; data_set = data_set.old; report = report.old }) fragment.now result (record { records = records.exit.now; message = message.new; command = command.new; data_set = data_set.new; report = report.new }) }
+    ensures { FeedMet (record { records = records.old; message = message.old; command = command.old; data_set = data_set.old; report = report.old }) fragment.now result (record { records = records.new; message = message.new; command = command.new; data_set = data_set.new; report = report.new }) }
 {
     gateway::gateway_feed(records, message, fragment, command, data_set, report)
 }
