@@ -7,13 +7,17 @@ mod calls;
 mod replies;
 mod words;
 
-ghost use Rattle.std.specs.Prelude.{◌+◌, ◌≤◌, min, ◌≡◌, length, take, IfOk};
+ghost use Rattle.std.specs.Prelude.{◌+◌, ◌≤◌, min, ◌≡◌, length, take, IfOk, IfSome};
 
 use calls::Outcome;
+use std::env::{Env, FillError};
 use std::io::Read;
 use std::rt::Files;
-use std::{env, fs, io};
+use std::{fs, io};
 use words::find;
+
+// So many bytes of an argument are read at most.
+const ARGUMENT: usize = 4096;
 
 fn print(rt: &impl Print, text: &[u8]) -> io::Result<()> {
     rt.write_all(text)
@@ -113,8 +117,8 @@ fn report(rt: &impl Print, finding: Finding) -> io::Result<()> {
     print(rt, b"\n")
 }
 
-fn print_argument(rt: &impl Print, name: &str) -> io::Result<()> {
-    print(rt, name.as_bytes())
+fn print_argument(rt: &impl Print, name: &[u8]) -> io::Result<()> {
+    print(rt, name)
 }
 
 // Reads until the slice is full or the input ends.
@@ -133,10 +137,13 @@ fn read_full(file: &mut impl Read, into: &mut [u8]) -> io::Result<usize>
 }
 
 // Reads the file that an argument names.
-fn read(rt: &impl Files, name: &str, into: &mut [u8]) -> io::Result<usize>
+fn read(rt: &impl Files, name: &[u8], into: &mut [u8]) -> io::Result<usize>
     ensures { IfOk result (λ n. (n ≤ length into.new) × (n ≡ length (take n into.new))) }
 {
-    let mut file = fs::open(rt, name)?;
+    let Ok(path) = str::from_utf8(name) else {
+        return Err(io::Error::from(io::ErrorKind::InvalidInput));
+    };
+    let mut file = fs::open(rt, path)?;
     read_full(&mut file, into)
 }
 
@@ -147,7 +154,7 @@ fn message_buffer() -> [u8; 65537]
     [0; 65537]
 }
 
-fn replay(rt: &(impl Files + Print), name: &str, replies: &str) -> io::Result<()> {
+fn replay(rt: &(impl Files + Print), name: &[u8], replies: &[u8]) -> io::Result<()> {
     let mut trace = [0; 65536];
     let calls = read(rt, name, &mut trace)?;
     let mut kept = [0; 65536];
@@ -162,16 +169,29 @@ fn replay(rt: &(impl Files + Print), name: &str, replies: &str) -> io::Result<()
     )
 }
 
+// An argument's bytes: none of one that is longer than the buffer, and nothing where there is no such argument.
+fn argument(rt: &impl Env, i: usize, into: &mut [u8]) -> Option<usize>
+    ensures { IfSome result (λ n. n ≤ length into.new) }
+{
+    match rt.arg(i, into) {
+        Ok(n) => Some(n),
+        Err(FillError::TooLong) => Some(0),
+        Err(FillError::NotPresent) => None,
+    }
+}
+
 fn main(rt: HostRuntime) -> io::Result<()> {
-    let names: Vec<String> = env::args(&rt)?.collect(rt.alloc())?;
-    let count = names.len();
-    let mut i = 1;
-    while i < count {
-        if count - i < 2 {
+    for pair in 0..u32::MAX {
+        let i = 1 + 2 * pair as usize;
+        let mut name = [0; ARGUMENT];
+        let mut replies = [0; ARGUMENT];
+        let Some(n) = argument(&rt, i, &mut name) else {
             return Ok(());
-        }
-        replay(&rt, names[i].as_str(), names[i + 1].as_str())?;
-        i += 2;
+        };
+        let Some(m) = argument(&rt, i + 1, &mut replies) else {
+            return Ok(());
+        };
+        replay(&rt, &name[..n], &replies[..m])?;
     }
     Ok(())
 }

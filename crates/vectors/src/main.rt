@@ -3,14 +3,15 @@
 // arguments are a file and its syntax, by turns. What is expected is those tools' own reading.
 #![tactic(auto)]
 
-ghost use Rattle.std.specs.Prelude.{◌≤◌, length};
+ghost use Rattle.std.specs.Prelude.{◌≤◌, length, IfOk, IfSome};
 
 use elements::{Found, Items, Read};
 use headers::{Inside, Part, Scope, Syntax};
+use std::env::{Env, FillError};
 use std::rt::Files;
-use std::{env, fs, io};
+use std::{fs, io};
 
-// So many bytes of a file are read at most.
+// So many bytes of a file are read at most, and of an argument.
 const MOST: usize = 4096;
 
 const NAMED: [usize; 35] = [
@@ -254,28 +255,66 @@ fn syntax_named(first: u8) -> Syntax {
     Syntax::Implicit
 }
 
-// The file that one argument names, in the syntax that another does.
-fn report_file<R: Files + Print + Alloc>(rt: &R, name: &str, named: &str) -> io::Result<()> {
-    print!(rt; "{name} {named}")?;
-    let syntax = syntax_named(named.as_bytes().first().copied().unwrap_or(0));
-    let bytes = fs::read(rt, name)?;
-    let all = bytes.as_slice();
-    if all.len() < MOST {
-        return report(rt, all, syntax);
+// Reads until the slice is full or the input ends.
+fn read_full(file: &mut impl io::Read, into: &mut [u8]) -> io::Result<usize>
+    ensures { IfOk result (λ n. n ≤ length into.new) }
+{
+    let mut done = 0;
+    while done < into.len() {
+        let n = file.read(&mut into[done..])?;
+        if n == 0 {
+            return Ok(done);
+        }
+        done += n;
     }
-    report(rt, &all[..MOST], syntax)
+    Ok(done)
+}
+
+// Reads the file that an argument names.
+fn read(rt: &impl Files, name: &[u8], into: &mut [u8]) -> io::Result<usize>
+    ensures { IfOk result (λ n. n ≤ length into.new) }
+{
+    let Ok(path) = str::from_utf8(name) else {
+        return Err(io::Error::from(io::ErrorKind::InvalidInput));
+    };
+    let mut file = fs::open(rt, path)?;
+    read_full(&mut file, into)
+}
+
+// The file that one argument names, in the syntax that another does.
+fn report_file(rt: &(impl Files + Print), name: &[u8], named: &[u8]) -> io::Result<()> {
+    print(rt, name)?;
+    print(rt, b" ")?;
+    print(rt, named)?;
+    let syntax = syntax_named(named.first().copied().unwrap_or(0));
+    let mut bytes = [0; MOST];
+    let got = read(rt, name, &mut bytes)?;
+    report(rt, &bytes[..got], syntax)
+}
+
+// An argument's bytes: none of one that is longer than the buffer, and nothing where there is no such argument.
+fn argument(rt: &impl Env, i: usize, into: &mut [u8]) -> Option<usize>
+    ensures { IfSome result (λ n. n ≤ length into.new) }
+{
+    match rt.arg(i, into) {
+        Ok(n) => Some(n),
+        Err(FillError::TooLong) => Some(0),
+        Err(FillError::NotPresent) => None,
+    }
 }
 
 fn main(rt: HostRuntime) -> io::Result<()> {
-    let words: Vec<String> = env::args(&rt)?.collect(rt.alloc())?;
-    let count = words.len();
-    let mut i = 1;
-    while i < count {
-        if count - i < 2 {
+    for pair in 0..u32::MAX {
+        let i = 1 + 2 * pair as usize;
+        let mut name = [0; MOST];
+        let mut named = [0; MOST];
+        let Some(n) = argument(&rt, i, &mut name) else {
             return Ok(());
-        }
-        report_file(&rt, words[i].as_str(), words[i + 1].as_str())?;
-        i += 2;
+        };
+        let Some(m) = argument(&rt, i + 1, &mut named) else {
+            return Ok(());
+        };
+        report_file(&rt, &name[..n], &named[..m])?;
     }
     Ok(())
 }
