@@ -3,12 +3,21 @@ call of a function that is not known, and a loop that is not known, are errors."
 from source import Unread, flat, is_group, is_name, split
 
 # What of these tokens is neither a name, a number, a text nor a group: they join values, and nothing is hidden behind them.
-JOINING = {";", ",", ":", ".", "..", "=", "==", "!=", "<", "<=", ">", ">=", "+", "-", "*", "/", "%", "!", "&", "&&", "||",
+JOINING = {";", ",", ":", ".", "..", "..=", "=", "==", "!=", "<", "<=", ">", ">=", "+", "-", "*", "/", "%", "!", "&", "&&", "||",
            "+=", "-=", "*=", "/=", "%=", "::"}
 WORDS = {"let", "mut", "as", "true", "false", "self"}
-REFUSED = {"break", "continue", "for", "unsafe", "fn", "move", "dyn"}
-# Methods and functions of the kit: a length, a copy of bytes, a sum.
-OF_THE_KIT = {"len", "copy_from_slice", "std::num::wrapping_add_u16"}
+REFUSED = {"break", "continue", "unsafe", "fn", "move", "dyn"}
+# Methods of the kit: lengths, ends and copies of bytes, numbers, what an Option or a Result holds, and elements to be gone through, of
+# which none is looked at yet.
+OF_THE_KIT = {"len", "is_empty", "first", "last", "first_chunk", "first_chunk_mut", "copy_from_slice", "copy_within", "fill",
+              "min", "max", "div_ceil", "saturating_sub", "checked_sub", "wrapping_add", "contains", "is_ascii_digit",
+              "is_some", "is_none", "unwrap_or", "iter", "iter_mut", "rev", "zip", "enumerate"}
+FUNCTIONS_OF_THE_KIT = {"std::num::wrapping_add_u16"}
+# Methods that call a function that is handed to them: once for an element, which is a loop, or once at most.
+LOOPING = {"all", "any", "find", "position", "rposition"}
+ONCE = {"map_or"}
+# Types of the language, whose functions are the kit's, but for conversions that a crate has for its own types.
+NUMBERS = {"u8", "u16", "u32", "u64", "usize"}
 
 
 class Paths:
@@ -44,30 +53,34 @@ class Counter:
 
     def __init__(self, crates, nothing, unit, loops, assumed=None):
         self.crates, self.nothing, self.unit, self.loops, self.assumed = crates, nothing, unit, loops, assumed or {}
-        self.counted, self.within, self.looping = {}, [], set()
+        self.counted, self.within, self.looping, self.recurring = {}, [], set(), set()
 
     def count(self, path, given=()):
         """The greatest count of a function, whose parameters may be known to be variants."""
         known = {**dict(given), **self.assumed.get(path, {})}
         key = path, tuple(sorted(known.items()))
         if path in self.within:
-            return self.turn(path)
+            self.recurring.add(path)
+            self.turn(path)
+            return self.nothing
         if key not in self.counted:
             self.within.append(path)
             function = self.function(path)
             paths = self.block(function, function.body, known)
             self.counted[key] = most(paths.through, paths.ended)
             self.within.pop()
-            if path in self.looping and self.counted[key] != self.nothing:
+            if path in self.recurring and self.counted[key] != self.nothing:
                 raise Unread(f"{path}: a loop around what is counted")
         return self.counted[key]
 
-    def turn(self, path):
-        """A loop, or a function that calls itself, is one that is known to be short; that it counts nothing is tried behind it."""
+    def turn(self, path, paths=None):
+        """A loop, or a function that calls itself, is one that is known to be short, and counts nothing: a loop in a turn, a function
+        in all, which is tried behind it."""
         if path not in self.loops:
             raise Unread(f"{path}: a loop that is not known")
         self.looping.add(path)
-        return self.nothing
+        if paths and most(paths.through, paths.ended) != self.nothing:
+            raise Unread(f"{path}: a loop around what is counted")
 
     def function(self, path):
         crate, _, name = path.partition("::")
@@ -76,44 +89,101 @@ class Counter:
         return self.crates[crate].functions[name]
 
     def resolved(self, function, path):
-        """The function that a path of names means in a function's crate; None for a variant or a struct."""
+        """The functions that a path of names may mean in a function's crate; None for a variant, a struct or the kit's."""
         crate = self.crates[function.crate]
         if path[-1][0].isupper():
             return None
         text = "::".join(path)
-        if text in OF_THE_KIT:
+        if text in FUNCTIONS_OF_THE_KIT:
             return None
         if text in crate.functions:
-            return f"{crate.name}::{text}"
+            return [f"{crate.name}::{text}"]
         if len(path) == 1 and text in crate.imports:
-            return crate.imports[text]
+            return [crate.imports[text]]
         if len(path) == 2 and path[0] in self.crates:
-            return text
+            return [text]
+        if len(path) == 2 and (path[0][0].isupper() or path[0] in NUMBERS):
+            return self.of_type(function, text)
         raise Unread(f"{function.path}: what it calls is not known: {text}")
 
-    def method(self, function, name):
-        if name in OF_THE_KIT:
-            return None
-        found = [path for path in self.crates[function.crate].functions if path.endswith(f"::{name}")]
-        if len(found) != 1:
-            raise Unread(f"{function.path}: the method is not known: {name}")
-        return f"{function.crate}::{found[0]}"
+    def of_types(self, wanted):
+        """The functions of types with a name that is wanted, in all crates."""
+        return [each for crate in self.crates.values() for name, each in crate.functions.items() if "::" in name and wanted(name)]
 
-    def call(self, function, callee, group, known, method):
-        """What a call counts: its arguments, and then the function's own count."""
+    def conversion(self):
+        """What a question mark that leaves the function counts: it may convert what it hands back."""
+        greatest = self.nothing
+        for each in self.of_types(lambda name: name.endswith("::from")):
+            greatest = most(greatest, self.count(each.path))
+        return greatest
+
+    def of_type(self, function, text):
+        """What a type's function may be: that of the type, in whatever crate it is; of a type that is left open that of any type.
+        None for the kit's."""
+        of, name = text.split("::")
+        if of in function.open_types:
+            found = [each for each in self.of_types(lambda path: path.endswith(f"::{name}")) if each.of_trait]
+            if found:
+                return self.of_others(found)
+        found = [each.path for each in self.of_types(lambda path: path == text)]
+        if not found and (of not in NUMBERS or name != "from"):
+            raise Unread(f"{function.path}: what it calls is not known: {text}")
+        return found or None
+
+    def method(self, function, name):
+        """The functions that a method may be; None for the kit's."""
+        found = self.of_types(lambda path: path.endswith(f"::{name}"))
+        if not found and name in OF_THE_KIT:
+            return None
+        if not found or len(found) > 1 and not all(each.of_trait for each in found):
+            raise Unread(f"{function.path}: the method is not known: {name}")
+        return self.of_others(found) if len(found) > 1 else [found[0].path]
+
+    def of_others(self, found):
+        """The functions of a trait but for those within which they are called, for no type holds itself. These must count nothing:
+        what is called here is counted once, and may be theirs elsewhere."""
+        paths = {each.path for each in found}
+        self.recurring |= paths & set(self.within)
+        return sorted(paths - set(self.within))
+
+    def call(self, function, callees, group, known, method):
+        """What a call counts: its arguments, and then the greatest count of the functions that it may mean."""
         arguments = self.block(function, group.inside, known)
-        if callee is None:
+        if not callees:
             return arguments
-        own = self.unit(function.path, callee)
-        if own is None:
-            parameters = self.function(callee).parameters[1 if method else 0:]
-            handed = split(group.inside, ",")
-            if len(parameters) != len(handed):
-                raise Unread(f"{function.path}: {callee} is called with {len(handed)} arguments")
-            given = [(parameter, known[argument[0]]) for parameter, argument in zip(parameters, handed)
-                     if len(argument) == 1 and argument[0] in known]
-            own = self.count(callee, given)
-        return arguments.then(Paths(own))
+        return arguments.then(Paths(self.greatest(function, callees, split(group.inside, ","), known, method)))
+
+    def greatest(self, function, callees, handed, known, method):
+        greatest = None
+        for callee in callees:
+            own = self.unit(function.path, callee)
+            if own is None:
+                parameters = self.function(callee).parameters[1 if method else 0:]
+                if len(parameters) != len(handed):
+                    raise Unread(f"{function.path}: {callee} is called with {len(handed)} arguments")
+                given = [(parameter, known[argument[0]]) for parameter, argument in zip(parameters, handed)
+                         if len(argument) == 1 and argument[0] in known]
+                own = self.handed_on(function, callee, handed, self.count(callee, given))
+            greatest = most(greatest, own)
+        return greatest
+
+    def handed_on(self, function, callee, handed, own):
+        """What a call with these arguments counts of the function's own count."""
+        return own
+
+    def called_by_kit(self, function, name, group, known):
+        """A method of the kit that is handed a function without a name: what that counts, in one turn of a loop or once at most."""
+        handed = group.inside
+        begun = next((i for i, token in enumerate(handed) if token == "|"), len(handed))
+        if begun == len(handed) or handed[begun - 1:begun] not in ([], [","]):
+            raise Unread(f"{function.path}: what is handed to {name} is not known")
+        body = handed.index("|", begun + 1) + 1
+        if known.keys() & set(flat(handed[begun:body])) or {"return", "?"} & set(flat(handed[body:])):
+            raise Unread(f"{function.path}: a function without a name returns, or binds anew")
+        before, inside = self.block(function, handed[:begun], known), self.block(function, handed[body:], known)
+        if name in LOOPING:
+            self.turn(function.path, inside)
+        return before.then(Paths(self.nothing).either(inside))
 
     def block(self, function, tokens, known):
         """Statements, or the parts of an expression, one after another."""
@@ -132,8 +202,12 @@ class Counter:
             return self.match(function, tokens, i, known)
         if token == "if":
             return self.branch(function, tokens, i, known)
-        if token in ("loop", "while"):
+        if token in ("loop", "while", "for"):
             return self.loop(function, tokens, i, known)
+        if token == "?":
+            return Paths(self.nothing, self.conversion()), i + 1
+        if token == "else":
+            return Paths(self.nothing).either(self.block(function, tokens[i + 1].inside, known)), i + 2
         if token == "return":
             end = next((k for k in range(i, len(tokens)) if tokens[k] in (";", ",")), len(tokens))
             paths = self.block(function, tokens[i + 1:end], known)
@@ -141,12 +215,17 @@ class Counter:
         if token == "let":
             return self.binding(function, tokens, i, known)
         if token == "." and is_name(tokens[i + 1]) and is_group((tokens[i + 2:i + 3] or [""])[0], "("):
-            return self.call(function, self.method(function, tokens[i + 1]), tokens[i + 2], known, True), i + 3
+            return self.method_call(function, tokens[i + 1], tokens[i + 2], known), i + 3
         if token in REFUSED or (not is_name(token) and not token[0].isdigit() and token[-1] not in "\"'" and token not in JOINING):
             raise Unread(f"{function.path}: '{token}' is not known")
         if is_name(token) and token not in WORDS:
             return self.path(function, tokens, i, known)
         return Paths(self.nothing), i + 1
+
+    def method_call(self, function, name, group, known):
+        if name in LOOPING | ONCE:
+            return self.called_by_kit(function, name, group, known)
+        return self.call(function, self.method(function, name), group, known, True)
 
     def path(self, function, tokens, i, known):
         """Names joined by colons, and a call where brackets follow."""
@@ -157,18 +236,28 @@ class Counter:
         following = (tokens[i + 1:i + 2] or [""])[0]
         if following == "=" and len(names) == 1 and names[0] in known:
             raise Unread(f"{function.path}: {names[0]} is changed, and was taken for one variant")
+        if following == "!" and names == ["matches"] and is_group(tokens[i + 2], "("):
+            return self.matches(function, tokens[i + 2].inside, known), i + 3
         if following == "!":
             raise Unread(f"{function.path}: the macro is not known: {names[-1]}")
         if not is_group(following, "("):
             return Paths(self.nothing), i + 1
         return self.call(function, self.resolved(function, names), following, known, False), i + 2
 
+    def matches(self, function, tokens, known):
+        """A value beside a pattern, which has no condition."""
+        value = split(tokens, ",")[0]
+        if "if" in tokens:
+            raise Unread(f"{function.path}: a pattern with a condition")
+        return self.block(function, value, known)
+
     def binding(self, function, tokens, i, known):
-        """A name that is bound anew means another value, unless that is the one assumed."""
-        i += 2 if tokens[i + 1] == "mut" else 1
-        if tokens[i] in known and self.assumed.get(function.path, {}).get(tokens[i]) != known[tokens[i]]:
-            raise Unread(f"{function.path}: {tokens[i]} is bound anew, and was taken for one variant")
-        return Paths(self.nothing), i + 1
+        """Names that are bound anew mean other values, unless that is the one assumed."""
+        end = next((k for k in range(i, len(tokens)) if tokens[k] in ("=", ":", ";")), len(tokens))
+        for name in known.keys() & set(flat(tokens[i + 1:end])):
+            if self.assumed.get(function.path, {}).get(name) != known[name]:
+                raise Unread(f"{function.path}: {name} is bound anew, and was taken for one variant")
+        return Paths(self.nothing), end
 
     def until_brace(self, function, tokens, i):
         """The place of the next group in braces."""
@@ -178,43 +267,47 @@ class Counter:
         raise Unread(f"{function.path}: no braces behind '{tokens[i - 1]}'")
 
     def match(self, function, tokens, i, known):
-        """The greatest of the arms, or the one arm of a variable that is known."""
+        """The conditions of all arms, and the greatest of their bodies; or the one arm of a variable that is known."""
         brace = self.until_brace(function, tokens, i + 1)
         value = tokens[i + 1:brace]
         arms = self.arms(function, tokens[brace].inside, known)
         if len(value) == 1 and value[0] in known:
-            wanted = [arm for arm in arms if arm[0][2:3] == [known[value[0]]]]
+            named = [arm for arm in arms if any(one[2:3] == [known[value[0]]] for one in split(arm[0], "|"))]
+            wanted = named or [arm for arm in arms if arm[0] == ["_"]]
             if len(wanted) != 1:
                 raise Unread(f"{function.path}: not one arm for {known[value[0]]}")
             arms = wanted
         result = None
-        for _, body in arms:
+        for _, _, body in arms:
             paths = self.block(function, body, known)
             result = paths if result is None else result.either(paths)
-        return self.block(function, value, known).then(result), brace + 1
+        tested = self.block(function, value, known)
+        for _, condition, _ in arms:
+            tested = tested.then(self.block(function, condition, known))
+        return tested.then(result), brace + 1
 
     def arms(self, function, tokens, known):
-        """The arms of a match: pattern and body."""
+        """The arms of a match: pattern, condition and body."""
         found, i = [], 0
         while i < len(tokens):
             arrow = tokens.index("=>", i)
-            pattern = tokens[i:arrow]
-            if "if" in pattern or known.keys() & set(flat(pattern)):
-                raise Unread(f"{function.path}: a pattern with a condition, or of a name that was taken for one variant")
+            pattern, condition = (split(tokens[i:arrow], "if") + [[]])[:2]
+            if known.keys() & set(flat(pattern)):
+                raise Unread(f"{function.path}: a pattern of a name that was taken for one variant")
             if is_group(tokens[arrow + 1], "{"):
                 end = arrow + 2
                 body = tokens[arrow + 1:end]
             else:
                 end = next((k for k in range(arrow, len(tokens)) if tokens[k] == ","), len(tokens))
                 body = tokens[arrow + 1:end]
-            found.append((pattern, body))
+            found.append((pattern, condition, body))
             i = end + 1 if tokens[end:end + 1] == [","] else end
         return found
 
     def branch(self, function, tokens, i, known):
         """A condition, then the greater of both branches."""
         brace = self.until_brace(function, tokens, i + 1)
-        condition = self.block(function, [token for token in tokens[i + 1:brace] if token != "let"], known)
+        condition = self.condition(function, tokens[i + 1:brace], known)
         yes = self.block(function, tokens[brace].inside, known)
         no, end = Paths(self.nothing), brace + 1
         if tokens[end:end + 1] == ["else"]:
@@ -224,9 +317,25 @@ class Counter:
                 no, end = self.block(function, tokens[end + 1].inside, known), end + 2
         return condition.then(yes.either(no)), end
 
+    def condition(self, function, tokens, known):
+        """A condition, or a value beside a pattern."""
+        if tokens[0] != "let":
+            return self.block(function, tokens, known)
+        end = tokens.index("=")
+        if known.keys() & set(flat(tokens[:end])):
+            raise Unread(f"{function.path}: a pattern of a name that was taken for one variant")
+        return self.block(function, tokens[end + 1:], known)
+
     def loop(self, function, tokens, i, known):
-        """The loop's condition and its body, as of one turn."""
+        """The loop's condition and its body, as of one turn; what it goes over is once."""
         brace = self.until_brace(function, tokens, i + 1)
-        self.turn(function.path)
-        turn = self.block(function, tokens[i + 1:brace + 1], known)
-        return Paths(self.nothing).either(turn), brace + 1
+        before, begun = Paths(self.nothing), i + 1
+        if tokens[i] == "for":
+            begun = tokens.index("in", i)
+            if known.keys() & set(flat(tokens[i:begun])):
+                raise Unread(f"{function.path}: a pattern of a name that was taken for one variant")
+            before = self.block(function, tokens[begun + 1:brace], known)
+            begun = brace
+        turn = self.block(function, tokens[begun:brace + 1], known)
+        self.turn(function.path, turn)
+        return before.then(Paths(self.nothing).either(turn)), brace + 1

@@ -2,9 +2,13 @@
 known to this reader is an error: nothing is passed over."""
 import re
 
-TOKEN = re.compile(r"""//[^\n]*|b?"(?:\\.|[^"\\])*"|b?'(?:\\.|[^'\\])'|\w+|::|=>|->|==|!=|<=|>=|&&|\|\||\.\.|[-+*/%]=|\S""")
+TOKEN = re.compile(r"""//[^\n]*|b?"(?:\\.|[^"\\])*"|b?'(?:\\.|[^'\\])'|'\w+|\w+|::|=>|->|==|!=|<=|>=|&&|\|\||\.\.=|\.\.|[-+*/%]=|\S""")
 CLOSING = {"(": ")", "[": "]", "{": "}"}
 CLAUSES = {"requires", "ensures"}
+# Traits of the kit whose functions are called by name, or by a question mark; an operator calls those of others.
+CALLED_BY_NAME = {"From"}
+# What an item begins with.
+BEGINNING = {"pub", "fn", "#", "const", "use", "ghost", "struct", "enum", "impl", "trait", "type"}
 
 
 class Unread(Exception):
@@ -22,10 +26,12 @@ class Group:
 
 
 class Function:
-    """A function: its crate, its name with its type's, the names of its parameters, and its body."""
+    """A function: its crate, its name with its type's, the names of its parameters, its body, whether a trait names it, and the
+    types that it leaves open."""
 
-    def __init__(self, crate, name, parameters, body):
+    def __init__(self, crate, name, parameters, body, of_trait=False, open_types=()):
         self.crate, self.name, self.parameters, self.body = crate, name, parameters, body
+        self.of_trait, self.open_types = of_trait, open_types
         self.path = f"{crate}::{name}"
 
 
@@ -75,11 +81,47 @@ def split(tokens, at):
     return parts if parts[-1] else parts[:-1]
 
 
+def behind_angles(tokens, i):
+    """The place behind the types in angles that begin at a token, or the token's own place where none do."""
+    if tokens[i:i + 1] != ["<"]:
+        return i
+    depth = 0
+    for k in range(i, len(tokens)):
+        depth += {"<": 1, ">": -1}.get(tokens[k], 0) if isinstance(tokens[k], str) else 0
+        if depth == 0:
+            return k + 1
+    raise Unread("an angle is not closed")
+
+
+def without_angles(tokens):
+    """A type's tokens, without what stands in angles."""
+    kept, i = [], 0
+    while i < len(tokens):
+        end = behind_angles(tokens, i)
+        if end == i:
+            kept.append(tokens[i])
+            end += 1
+        i = end
+    return kept
+
+
+def without_turbofish(tokens):
+    """The tokens of calls, without the types in angles behind colons: which they are changes no path."""
+    kept, i = [], 0
+    while i < len(tokens):
+        if tokens[i:i + 2] == ["::", "<"]:
+            i = behind_angles(tokens, i + 1)
+        else:
+            kept.append(tokens[i])
+            i += 1
+    return kept
+
+
 def parameters_of(group):
     """The names of parameters; a function is none."""
     names = []
-    for part in split(group.inside, ","):
-        if "fn" in part:
+    for part in split(without_angles(group.inside), ","):
+        if {"fn", "impl", "dyn"} & set(flat(part)):
             raise Unread("a parameter is a function")
         names.append(next(token for token in part if is_name(token) and token != "mut"))
     return names
@@ -90,11 +132,13 @@ class Crate:
 
     def __init__(self, name, text):
         self.name, self.functions, self.imports, self.variants = name, {}, {}, {}
-        tokens = grouped(token for token in TOKEN.findall(text) if not token.startswith("//"))
+        tokens = grouped(without_turbofish([token for token in TOKEN.findall(text) if not token.startswith("//")]))
+        self.traits = {tokens[i + 1] for i, token in enumerate(tokens) if token == "trait"} | CALLED_BY_NAME
         self.read_items(tokens, "")
 
-    def read_items(self, tokens, prefix):
-        """Functions, imports, types and constants, one after another; functions of an impl stand under its type's name."""
+    def read_items(self, tokens, prefix, of_trait=False, declared=False):
+        """Functions, imports, types and constants, one after another; functions of an impl stand under its type's name, those that a
+        trait has for all types under its own. A trait declares others, which its impls have."""
         i = 0
         while i < len(tokens):
             word = tokens[i]
@@ -103,11 +147,10 @@ class Crate:
             elif word in ("pub", "extern") or is_group(word, "(") or word == '"C"':
                 i += 1
             elif word == "fn":
-                i = self.read_function(tokens, i + 1, prefix)
-            elif word == "impl":
-                self.read_items(tokens[i + 2].inside, f"{tokens[i + 1]}::")
-                i += 3
-            elif word in ("use", "ghost", "const"):
+                i = self.read_function(tokens, i + 1, prefix, of_trait, declared)
+            elif word in ("impl", "trait"):
+                i = self.read_methods(tokens, i)
+            elif word in ("use", "ghost", "const", "type"):
                 end = tokens.index(";", i)
                 if word == "use":
                     self.read_import(tokens[i + 1:end])
@@ -116,6 +159,18 @@ class Crate:
                 i = self.read_type(tokens, i)
             else:
                 raise Unread(f"{self.name}: '{word}' begins nothing that is known")
+
+    def read_methods(self, tokens, i):
+        """The functions of an impl, of a trait's impl for a type, or of a trait."""
+        begun = behind_angles(tokens, i + 1)
+        brace = next(k for k in range(begun, len(tokens)) if is_group(tokens[k], "{"))
+        head = without_angles(tokens[begun:brace])
+        type_of = head[head.index("for") + 1] if "for" in head else head[0]
+        if not is_name(type_of) or "where" in head or ("for" in head and head[0] not in self.traits):
+            raise Unread(f"{self.name}: an impl of an unknown form")
+        trait = tokens[i] == "trait"
+        self.read_items(tokens[brace].inside, f"{type_of}::", trait or "for" in head, trait)
+        return brace + 1
 
     def read_import(self, path):
         *front, last = path
@@ -127,24 +182,34 @@ class Crate:
             self.imports[name[0]] = "".join([*front, *name])
 
     def read_type(self, tokens, i):
-        name, body = tokens[i + 1], tokens[i + 2]
+        name, place = tokens[i + 1], behind_angles(tokens, i + 2)
+        body = tokens[place]
         if tokens[i] == "enum":
             self.variants[name] = [part[0] for part in split(body.inside, ",")]
-        return i + (3 if is_group(body, "{") else 4)
+        return place + (1 if is_group(body, "{") else 2)
 
-    def read_function(self, tokens, i, prefix):
+    def read_function(self, tokens, i, prefix, of_trait, declared):
         """A function behind its fn. Its body is the group behind its type and its clauses, which may have names."""
-        name, parameters = tokens[i], tokens[i + 1]
-        i += 2
-        while not is_group(tokens[i], "{") or tokens[i - 1] in CLAUSES or (is_name(tokens[i - 1]) and tokens[i - 2] in CLAUSES):
+        name, place = tokens[i], behind_angles(tokens, i + 1)
+        parameters, open_types = tokens[place], {token for token in flat(tokens[i + 1:place]) if is_name(token)}
+        i = place + 1
+        while tokens[i] != ";" and (not is_group(tokens[i], "{") or self.is_clause(tokens, i)):
             i += 1
-        if tokens[i + 1:i + 2] and tokens[i + 1] not in ("pub", "fn", "#", "const", "use", "ghost", "struct", "enum", "impl"):
+        if tokens[i] == ";":
+            if not declared:
+                raise Unread(f"{self.name}::{name}: no body")
+            return i + 1
+        if tokens[i + 1:i + 2] and tokens[i + 1] not in BEGINNING:
             raise Unread(f"{self.name}::{name}: '{tokens[i + 1]}' behind its body")
-        function = Function(self.name, prefix + name, parameters_of(parameters), tokens[i].inside)
+        function = Function(self.name, prefix + name, parameters_of(parameters), tokens[i].inside, of_trait, open_types)
         if function.name in self.functions:
             raise Unread(f"{function.path} stands twice")
         self.functions[function.name] = function
         return i + 1
+
+    @staticmethod
+    def is_clause(tokens, i):
+        return tokens[i - 1] in CLAUSES or (is_name(tokens[i - 1]) and tokens[i - 2] in CLAUSES)
 
 
 def texts_of(top):

@@ -1,12 +1,11 @@
 -- Checks 6 and 7 of N-ACTION, and the decision that films are queued.
-use Rattle.std.specs.Prelude.{ℕ, true, List, [], ◌∷◌, ◌++◌, eqb}
+use Rattle.std.specs.Prelude.{ℕ, None, true, List, [], ◌∷◌, ◌++◌, eqb}
 use Rattle.choice.specs.Pick.{not}
 use Rattle.choice.specs.Rules.{Rule, ◌⇒◌}
 use Rattle.rules.specs.declared.Name.{Name}
 use Rattle.rules.specs.declared.Core.{Core}
 use Rattle.rules.specs.declared.Action.{Action}
 use Rattle.rules.specs.declared.Note.TheVariants.{FilmsQueued}
-use Rattle.rules.specs.declared.Contents.TheVariants.{Nothing}
 use Rattle.rules.specs.Checks.{target_rules}
 use Rattle.changes.specs.declared.Effect.{Effect}
 use Rattle.changes.specs.declared.Decision.{Decision}
@@ -26,5 +25,5 @@ queuing effect name status films = record {
   change = change_by effect;
   instance = name;
   note = FilmsQueued films;
-  contents = Nothing;
+  contents = None;
 }

@@ -4,12 +4,11 @@ use Prim.Native.Nat.{ℕ}
 use mathlib.Core.Path.{◌≡◌, refl, sym, ap, ◌∙◌}
 use mathlib.Core.List.{List}
 use lib.ListN.{length}
+use Rattle.std.specs.Prelude.{Result, Ok, Err}
 use Rattle.choice.specs.Rules.{first_broken}
 use Rattle.choice.proofs.Broken.{first_refused, first_unbroken}
 use Rattle.headers.specs.declared.Syntax.{Syntax}
 use Rattle.elements.specs.declared.Stop.{Stop}
-use Rattle.elements.specs.declared.Read.{Read}
-use Rattle.elements.specs.declared.Read.TheVariants.{Past, Refused}
 use Rattle.strike.specs.declared.Came.{Came}
 use Rattle.rules.specs.declared.Core.{Core}
 use Rattle.rules.specs.declared.Operation.{Operation}
@@ -46,12 +45,12 @@ module _ (k : Core) (c : List ℕ) (came : Came) (d : List ℕ) (r : Request) (n
   unfolding decide_request general_rules
   general_kept kept f = f ∙ first_unbroken (failed k c r NoNote) (general_rules c came r.operation) behind refl (sym e ∙ kept)
 
-  module _ (kept : n ≡ 0) (syntax : Syntax) (told : syntax ≡ syntax_in k) (x : Read) (reads : x ≡ reading_of syntax came d) where
-    read_so : (y : Read) → x ≡ y → behind ≡ unless_stopped k c r y (decided_by k c r (plan_of k c d r.operation))
-    read_so y h = ap (λ (z : Read). unless_stopped k c r z (decided_by k c r (plan_of k c d r.operation))) (ap (λ (z : Syntax). reading_of z came d) (sym told) ∙ sym reads ∙ h)
+  module _ (kept : n ≡ 0) (syntax : Syntax) (told : syntax ≡ syntax_in k) (x : Result ℕ Stop) (reads : x ≡ reading_of syntax came d) where
+    read_so : (y : Result ℕ Stop) → x ≡ y → behind ≡ unless_stopped k c r y (decided_by k c r (plan_of k c d r.operation))
+    read_so y h = ap (λ (z : Result ℕ Stop). unless_stopped k c r z (decided_by k c r (plan_of k c d r.operation))) (ap (λ (z : Syntax). reading_of z came d) (sym told) ∙ sym reads ∙ h)
 
-    pub data_read : {q : ℕ} → x ≡ Past q → v ≡ decided_by k c r (plan_of k c d r.operation) → Decides
-    data_read {q} h f = general_kept kept (f ∙ sym (read_so (Past q) h))
+    pub data_read : {q : ℕ} → x ≡ Ok q → v ≡ decided_by k c r (plan_of k c d r.operation) → Decides
+    data_read {q} h f = general_kept kept (f ∙ sym (read_so (Ok q) h))
 
-    pub data_stopped : {stop : Stop} → x ≡ Refused stop → v ≡ failed k c r (StoppedAt stop) 0x0110 → Decides
-    data_stopped {stop} h f = general_kept kept (f ∙ sym (read_so (Refused stop) h))
+    pub data_stopped : {stop : Stop} → x ≡ Err stop → v ≡ failed k c r (StoppedAt stop) 0x0110 → Decides
+    data_stopped {stop} h f = general_kept kept (f ∙ sym (read_so (Err stop) h))

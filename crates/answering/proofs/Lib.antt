@@ -2,4 +2,4 @@
 mod Uids
 mod General
 mod Laws
-mod Fed
+mod Ways

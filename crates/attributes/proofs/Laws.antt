@@ -21,17 +21,17 @@ use Rattle.elements.specs.Reader.{data_scope}
 use Rattle.elements.specs.Find.{find_at}
 use Rattle.elements.proofs.Laws.{find_within}
 use Rattle.rules.specs.Lists.{any, every, filled_to}
-use Rattle.rules.specs.Values.{blank, trimmed, without_leading, without_trailing, code_in, label_byte, label_allowed}
+use Rattle.rules.specs.Values.{blank, trimmed, without_leading, without_trailing, label_byte, label_allowed}
 use Rattle.rules.specs.declared.Numbers.{Numbers}
 use Rattle.rules.specs.Records.{session_named, sessions_of, uid_of}
 use Rattle.rules.specs.Layout.{numbers_size, name_format, session_format}
 use Rattle.rules.specs.Commands.{bytes_of}
-use Rattle.rules.specs.Attributes.{Listing, Standing, missing, empty, wrong, fine, is, listing_of, look, value_of, mandatory, optional, or_kept, code_allowed, attribute_rules, session_standings}
+use Rattle.rules.specs.Attributes.{Listing, Standing, missing, empty, wrong, fine, is, listing_of, look, value_of, mandatory, optional, or_kept, attribute_rules, session_standings}
 use Rattle.records.specs.Places.{numbers_in, session_in, core_in}
 use Rattle.records.proofs.Parts.{core_numbers, core_sessions}
-use Rattle.standings.specs.Severity.{kind_of, severity, optional_by, given_by, worse, rank, worst, status_of}
+use Rattle.standings.specs.Severity.{kind_of, severity, given_by, worse, rank, worst, status_of}
 use Rattle.standings.proofs.Laws.{value_at, found_place, mandatory_severity, optional_severity, given_by_lem, worst_cons, worst_status}
-use Rattle.attributes.specs.Founds.{Placed, bytes_found, mandatory_found, optional_found, found_or}
+use Rattle.standings.specs.Founds.{Placed, bytes_found, mandatory_found, optional_found, found_or}
 
 -- What was found lies within the bytes that it was found in.
 
@@ -41,22 +41,11 @@ found_within d scope tag g h e = subst (Placed d) (sym e) (found_place (length d
 pub found_placed : (d : List ℕ) (syntax : Syntax) (tag : ℕ) {f : Found} → f ≡ look (listing_of d syntax) tag → Placed d f
 found_placed d syntax tag e = found_within d (data_scope d syntax) tag (omega arith) (omega arith) e
 
--- What is told of one attribute: its kind, its bytes, and tests of them.
-
-module _ (is_empty allowed : List ℕ → Bool) (d : List ℕ) (f : Found) {kind n : ℕ} {v : List ℕ} {e a : Bool} (k : kind ≡ kind_of f) (w : v ≡ bytes_found d f) (x : e ≡ is_empty v) (y : a ≡ allowed v) where
-  pub by_value : (by : ℕ → Bool → Bool → ℕ) → n ≡ by kind e a → n ≡ by (kind_of f) (is_empty (bytes_found d f)) (allowed (bytes_found d f))
-  by_value by z = z ∙ rw (k, x, y, w)
-
--- a code: which of the texts it is
-pub code_told : (texts : List (List ℕ)) (d : List ℕ) (f : Found) {kind place n : ℕ} {v : List ℕ} {e : Bool}
-    → kind ≡ kind_of f → v ≡ bytes_found d f → e ≡ blank v → place ≡ code_in texts v → n ≡ optional_by kind e (ltb place (length texts)) → n ≡ optional_found (code_allowed texts) d f
-code_told texts d f k w x y z = by_value blank (code_allowed texts) d f k w x (ap (λ i. ltb i (length texts)) y) optional_by z
-
 -- What an attribute gives, and what is kept where it is absent.
 
-module _ {A : Type 0} (read : List ℕ → A) (d : List ℕ) (f : Found) (kept : A) {kind : ℕ} {v : List ℕ} {e g : Bool} (k : kind ≡ kind_of f) (w : v ≡ bytes_found d f) (x : e ≡ blank v) (h : g ≡ given_by kind e) where
+module _ {A : Type 0} (read : List ℕ → A) (d : List ℕ) (f : Found) (kept : A) {v : List ℕ} {e g : Bool} (w : v ≡ bytes_found d f) (x : e ≡ blank v) (h : g ≡ given_by (kind_of f) e) where
   given_told : g ≡ given_by (kind_of f) (blank (bytes_found d f))
-  given_told = h ∙ rw (k, x, w)
+  given_told = h ∙ rw (x, w)
 
   pub given_read : g ≡ true → {r : A} → r ≡ read v → r ≡ found_or read d f kept
   given_read t z = z ∙ ap read w ∙ rw (sym given_told ∙ t)

@@ -2,14 +2,14 @@
 -- Assumes nothing.
 use Prim.Native.Nat.{ℕ, ◌+◌, ◌-◌, ◌*◌, ◌<◌, ◌≤◌}
 use mathlib.Core.Path.{◌≡◌, refl, sym, ap, subst, ◌∙◌}
-use mathlib.Core.Bool.{Bool, false}
+use mathlib.Core.Bool.{Bool, true, false, ◌&&◌}
 use mathlib.Core.List.{List, [], ◌∷◌}
 use native.Mathlib.Omega.{arith}
 use native.Mathlib.Nat.{mul-le-mul_right}
 use lib.Dec.{eqb, leb}
 use lib.ListN.{length, get_or, drop, replicate, length-take, get_or-replicate}
 use borrow.Author.Tests.{le-ltb, leb-true}
-use Rattle.choice.specs.Pick.{pick, both}
+use Rattle.choice.specs.Pick.{both}
 use Rattle.choice.specs.Rules.{first_broken}
 use Rattle.choice.proofs.Picks.{both_true, clash}
 use Rattle.headers.specs.declared.Syntax.{Syntax}
@@ -30,10 +30,10 @@ use Rattle.rules.specs.Commands.{placed, bytes_of}
 use Rattle.rules.specs.declared.Image.{Image}
 use Rattle.rules.specs.declared.Image.TheVariants.{Keeps, Erases, TooMany, Fills}
 use Rattle.rules.specs.Attributes.{Listing, wrong, attribute_rules, listing, listing_of, only_item, look, value_of, us, mandatory, number, code, code_allowed, optional, or_kept, image_standings, sequence_standings, box_standings, image_in, image_found, image_of, is_fill, pixel_bytes, pixel_length, pixels, depth_allowed}
-use Rattle.standings.specs.Severity.{kind_of, severity, severity_by, given_by, worse, worst, status_of}
+use Rattle.standings.specs.Severity.{kind_of, severity, severity_by, worse, worst, status_of}
 use Rattle.standings.proofs.Laws.{found_place, mandatory_severity, optional_severity, given_by_lem, worst_none, worst_cons, worst_status, first_fine, fine_allowed}
 use Rattle.boxes.specs.Images.{ImageWithin, PixelsFit}
-use Rattle.boxes.specs.Founds.{PlacedIn, ItemIn, ItemOf, ImageItem, ItemRead, value_in, number_by, code_by, optional_code_by, length_by, kept_code, pixel_bytes_at, with_extents, with_depths, image_worst, sequence_worst, item_pixels_at}
+use Rattle.boxes.specs.Founds.{PlacedIn, ItemIn, ItemOf, ImageItem, ItemRead, value_in, number_by, code_by, optional_code_by, length_by, kept_code, us_at, depth8_at, pixel_bytes_at, with_extents, with_depths, image_worst, sequence_worst, item_pixels_at}
 
 pub number_severity : (allowed : ℕ → Bool) (l : Listing) (tag : ℕ)
     → severity (number allowed l tag) ≡ severity_by (kind_of (look l tag)) (no_bytes (value_of l tag)) (both (is_us (value_of l tag)) (allowed (us l tag)))
@@ -59,16 +59,14 @@ pub kept_found : (texts : List (List ℕ)) (l : Listing) (tag kept : ℕ) → ke
 unfolding kept_code
 kept_found texts l tag kept = rw (given_by_lem blank l (look l tag))
 
--- by what the code has read and the test that it has made
-pub kept_by : (texts : List (List ℕ)) (d : List ℕ) (f : Found) (kept kind : ℕ) (none given test : Bool) → kind ≡ kind_of f → none ≡ blank (value_in d f) → given ≡ given_by kind none → given ≡ test
-    → kept_code texts d f kept ≡ pick test (code_in texts (value_in d f)) kept
-unfolding kept_code
-kept_by texts d f kept kind none given test k e g t = rw (← k, ← e, ← g, t)
+-- the derived equality of the three numbers of a depth
+and_both : (a b c : Bool) → a && (b && c) ≡ both a (both b c)
+and_both true true c = refl
+and_both true false c = refl
+and_both false b c = refl
 
-pub number_by_lem : (allowed : ℕ → Bool) (d : List ℕ) (f : Found) (kind size n : ℕ) (test : Bool) → kind ≡ kind_of f → size ≡ length (value_in d f) → n ≡ us_in (value_in d f) → allowed n ≡ test
-    → severity_by kind (eqb size 0) (both (eqb size 2) test) ≡ number_by allowed d f
-unfolding number_by
-number_by_lem allowed d f kind size n test k z e t = rw (k, z, sym t, e)
+pub eight_told : (d : List ℕ) (item : List Found) (a s h : ℕ) {b : Bool} → b ≡ eqb a 8 && (eqb s 8 && eqb h 7) → a ≡ us_at d item 4 → s ≡ us_at d item 5 → h ≡ us_at d item 6 → b ≡ depth8_at d item
+eight_told d item a s h e x y z = e ∙ and_both (eqb a 8) (eqb s 8) (eqb h 7) ∙ rw (x, y, z)
 
 -- rows times columns
 pub area_fits : (a b : ℕ) → a < 65536 → b < 65536 → a * b < 4294967296

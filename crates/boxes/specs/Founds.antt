@@ -9,9 +9,10 @@ use Rattle.finding.specs.Gathered.{Gathered}
 use Rattle.rules.specs.declared.Image.{Image}
 use Rattle.rules.specs.declared.Image.TheVariants.{Keeps, Erases, TooMany, Fills}
 use Rattle.rules.specs.Values.{no_bytes, blank, is_us, us_in, code_in, photometrics}
-use Rattle.rules.specs.Commands.{placed, bytes_of}
+use Rattle.rules.specs.Commands.{placed}
 use Rattle.rules.specs.Attributes.{Listing, listing_of, only_item, look, code_allowed}
-use Rattle.standings.specs.Severity.{kind_of, severity_by, optional_by, given_by, worse}
+use Rattle.standings.specs.Severity.{worse}
+use Rattle.standings.specs.Founds.{bytes_found, mandatory_found, optional_found, found_or}
 use Rattle.boxes.specs.declared.BoxFound.{BoxFound}
 use Rattle.boxes.specs.Images.{ImageRead}
 
@@ -61,24 +62,24 @@ ItemRead d syntax image item = ImageItem (listing_of d syntax) image item × Ite
 -- What a value says.
 
 abbrev pub value_in : List ℕ → Found → List ℕ
-value_in d f = bytes_of d (placed f)
+value_in d f = bytes_found d f
 
 -- how a mandatory number stands
 unfoldable pub number_by : (ℕ → Bool) → List ℕ → Found → ℕ
-number_by allowed d f = severity_by (kind_of f) (no_bytes (value_in d f)) (both (is_us (value_in d f)) (allowed (us_in (value_in d f))))
+number_by allowed d f = mandatory_found no_bytes (λ v. both (is_us v) (allowed (us_in v))) d f
 
 unfoldable pub code_by : List (List ℕ) → List ℕ → Found → ℕ
-code_by texts d f = severity_by (kind_of f) (blank (value_in d f)) (code_allowed texts (value_in d f))
+code_by texts d f = mandatory_found blank (code_allowed texts) d f
 
 unfoldable pub optional_code_by : List (List ℕ) → List ℕ → Found → ℕ
-optional_code_by texts d f = optional_by (kind_of f) (blank (value_in d f)) (code_allowed texts (value_in d f))
+optional_code_by texts d f = optional_found (code_allowed texts) d f
 
 unfoldable pub length_by : ℕ → List ℕ → Found → ℕ
-length_by expected d f = severity_by (kind_of f) (no_bytes (value_in d f)) (eqb (length (value_in d f)) expected)
+length_by expected d f = mandatory_found no_bytes (λ v. eqb (length v) expected) d f
 
 -- what a code gives, or what is kept where it is absent
 unfoldable pub kept_code : List (List ℕ) → List ℕ → Found → ℕ → ℕ
-kept_code texts d f kept = pick (given_by (kind_of f) (blank (value_in d f))) (code_in texts (value_in d f)) kept
+kept_code texts d f kept = found_or (code_in texts) d f kept
 
 -- What an item says.
 

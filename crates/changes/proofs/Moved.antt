@@ -3,77 +3,22 @@
 use Prim.Native.Nat.{ℕ, zero, suc, ◌+◌, ◌*◌, ◌-◌, ◌<◌, ◌≤◌}
 use mathlib.Core.Path.{◌≡◌, refl, sym, ap, ◌∙◌, subst}
 use mathlib.Core.List.{List, [], ◌∷◌, ◌++◌, append_assoc, append-nil}
-use native.Mathlib.Numerals.{add-one}
 use native.Mathlib.Omega.{arith}
-use lib.ListN.{length, get_or, set, take, drop, length-append, length-take, length-drop}
-use lib.Seq.{take_all, take-suc, split_at, drop_at, get_or-drop, length-take-le}
+use lib.ListN.{length, get_or, take, drop, length-append, length-take, length-drop}
+use lib.Seq.{paste, take_all, take-suc, split_at, length-take-le}
 use Rattle.octets.specs.Octets.{part, laid}
-use Rattle.octets.proofs.Laid.{Stands, length_laid, laid_stands, laid_then, laid_cons, laid_none, stands_first, stands_second}
+use Rattle.octets.proofs.Laid.{Stands, laid_stands, stands_first, stands_second}
 use Rattle.fields.specs.Format.{Format, bytes_all}
 use Rattle.fields.proofs.Laws.{Laws, array_laws}
 use Rattle.rules.specs.Lists.{without}
 use Rattle.changes.proofs.Writes.{Anew}
 
--- One turn of the moving: a byte more.
-
-module _ (s₀ : List ℕ) (from by : ℕ) where
-  -- what stands behind the bytes laid is what stood there
-  laid_past : (m : List ℕ) (i : ℕ) → from + length m ≤ length s₀ → get_or (laid s₀ from m) (from + length m + i) 0 ≡ get_or s₀ (from + length m + i) 0
-  laid_past m i h =
-      let n = from + length m in
-      let l : length (take from s₀ ++ m) ≡ n = length-append (take from s₀) m ∙ ap (λ (k : ℕ). k + length m) (length-take-le from s₀ (omega arith)) in
-      let e : drop n (laid s₀ from m) ≡ drop n s₀ =
-      ap (drop n) (sym (append_assoc (take from s₀) m (drop n s₀))) ∙ drop_at (take from s₀ ++ m) (drop n s₀) n l in
-      sym (get_or-drop n (laid s₀ from m) i 0) ∙ ap (λ (x : List ℕ). get_or x i 0) e ∙ get_or-drop n s₀ i 0
-
-  pub moved_none : s₀ ≡ laid s₀ from (part s₀ (from + by) (from + by))
-  moved_none = let e : from + by - (from + by) ≡ 0 = omega arith in rw e (sym (laid_none s₀ from))
-
-  -- so many bytes from a place further up
-  some : ℕ → List ℕ
-  some j = take j (drop (from + by) s₀)
-
-  some_more : (j : ℕ) → from + by + j < length s₀ → some j ++ (get_or s₀ (from + by + j) 0 ∷ []) ≡ some (j + 1)
-  unfolding some
-  some_more j h =
-      rw (add-one j)
-      (sym (take-suc (drop (from + by) s₀) j 0 (omega (arith, length-drop (from + by) s₀)) ∙ rw (get_or-drop (from + by) s₀ j 0)))
-
-  set_next : (t : List ℕ) (j y : ℕ) → from + j < length s₀ → length t ≡ j → set (laid s₀ from t) (from + j) y ≡ laid s₀ from (t ++ (y ∷ []))
-  set_next t j y h l =
-      let x = laid s₀ from t in
-      let k : length x ≡ length s₀ = length_laid s₀ from t (omega arith) in
-      sym (laid_cons x (from + j) y [] (omega (arith, k)) ∙ laid_none (set x (from + j) y) (from + j + 1))
-      ∙ ap (λ (n : ℕ). laid x (from + n) (y ∷ [])) (sym l)
-      ∙ laid_then s₀ from t (omega arith) (y ∷ [])
-
-  turn : (s : List ℕ) (j : ℕ) → from + by + j < length s₀ → s ≡ laid s₀ from (some j)
-      → set s (from + j) (get_or s (from + j + by) 0) ≡ laid s₀ from (some (j + 1))
-  unfolding some
-  turn s j h e =
-      let l : length (some j) ≡ j = length-take-le j (drop (from + by) s₀) (omega (arith, length-drop (from + by) s₀)) in
-      let there : from + length (some j) + by ≡ from + j + by = rw l in
-      let back : from + j + by ≡ from + by + j = omega arith in
-      let y : get_or s (from + j + by) 0 ≡ get_or s₀ (from + by + j) 0 =
-      ap (λ (x : List ℕ). get_or x (from + j + by) 0) e
-      ∙ ap (λ (n : ℕ). get_or (laid s₀ from (some j)) n 0) (sym there)
-      ∙ laid_past (some j) by (omega (arith, l))
-      ∙ ap (λ (n : ℕ). get_or s₀ n 0) (there ∙ back) in
-      ap (λ (x : ℕ). set s (from + j) x) y
-      ∙ ap (λ (x : List ℕ). set x (from + j) (get_or s₀ (from + by + j) 0)) e
-      ∙ set_next (some j) j (get_or s₀ (from + by + j) 0) (omega arith) l
-      ∙ ap (laid s₀ from) (some_more j h)
-
-  pub moved_more : (s : List ℕ) (p : ℕ) → from ≤ p → p + by < length s₀ → s ≡ laid s₀ from (part s₀ (from + by) (p + by))
-      → set s p (get_or s (p + by) 0) ≡ laid s₀ from (part s₀ (from + by) (p + 1 + by))
-  unfolding some
-  moved_more s p h k e =
-      let j = p - from in
-      let a : from + j ≡ p = omega arith in
-      let b : p + by - (from + by) ≡ j = omega arith in
-      let c : p + 1 + by - (from + by) ≡ j + 1 = omega arith in
-      let d = turn s j (omega arith) (e ∙ ap (λ (n : ℕ). laid s₀ from (take n (drop (from + by) s₀))) b) in
-      ap (λ (n : ℕ). set s n (get_or s (n + by) 0)) (sym a) ∙ d ∙ ap (λ (n : ℕ). laid s₀ from (take n (drop (from + by) s₀))) (sym c)
+-- Bytes copied further down lie over those that stood there.
+pub moved : (b : List ℕ) (from by stop : ℕ) → from + by ≤ stop → stop ≤ length b
+    → paste b from (drop (from + by) b) (stop - (from + by)) ≡ laid b from (part b (from + by) stop)
+moved b from by stop h l =
+    let k : length (part b (from + by) stop) ≡ stop - (from + by) = length-take-le (stop - (from + by)) (drop (from + by) b) (omega (arith, length-drop (from + by) b)) in
+    rw k (append_assoc (take from b) (part b (from + by) stop) (drop (from + (stop - (from + by))) b))
 
 -- An array, element behind element.
 

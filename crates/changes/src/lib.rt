@@ -1,22 +1,22 @@
 // Changes: what a request changes in the records, and how that is written where it stands.
 #![tactic(auto)]
 
-ghost use Rattle.std.specs.Prelude.{◌≡◌, ◌+◌, ◌<◌, ◌≤◌, [], ◌∷◌, ◌++◌, length};
+ghost use Rattle.std.specs.Prelude.{◌≡◌, ◌+◌, ◌*◌, ◌<◌, ◌≤◌, [], ◌∷◌, ◌++◌, length};
 ghost use Rattle.choice.specs.Pick.{pick};
 ghost use Rattle.octets.specs.Octets.{part, laid};
 ghost use Rattle.fields.specs.Format.{write};
 ghost use Rattle.rules.specs.Bounds.{most_films, most_boxes, most_entries};
 ghost use Rattle.rules.specs.Records.{films_of, entries_of, films_under, with_numbers, with_session, with_films, serials_used, picture_used};
 ghost use Rattle.rules.specs.Effects.{film_at, with_film, printed, film_deleted, session_deleted};
-ghost use Rattle.rules.specs.Layout.{film_size, records_size, core_format};
-ghost use Rattle.records.specs.Places.{queue_place, core_in};
+ghost use Rattle.rules.specs.Layout.{film_size, core_format};
+ghost use Rattle.records.specs.Places.{shelf_place, queue_place, core_in};
 ghost use Rattle.changes.specs.Changes.{change_by, change_with_session, change_with_film, changed, box_changed, Tidy, FilmThere, AllUnder, NoneBeside, SerialsLeft, PictureLeft, Fits};
 
 use records::{
     AT_FILMS, AT_PICTURE, AT_QUEUE, AT_SERIAL, AT_SESSIONS, AT_SHELF, FILM, FILM_BOXES, IMAGE_BOX,
-    PLACES, SHELF,
+    PLACES, Record, Records, SHELF,
 };
-use rules::{Contents, Film, ImageBox, Name, Note, Session};
+use rules::{Core, Film, ImageBox, Name, NewBoxes, Note, Session};
 
 // What a request does to the records: nothing; a session or a film is created, with so many serials used; a session, a film or a box is
 // set, a box by its film's place and its own, with whether it takes the next picture number; films are queued; a film or the session
@@ -57,7 +57,7 @@ pub struct Decision {
     pub change: Change,
     pub instance: Name,
     pub note: Note,
-    pub contents: Contents,
+    pub contents: Option<NewBoxes>,
 }
 
 const AT_LAST_FILM: usize = AT_QUEUE - FILM;
@@ -66,42 +66,36 @@ const AT_LAST_FILM: usize = AT_QUEUE - FILM;
 pub fn change_by(effect: Effect) -> Change
     ensures { result ≡ change_by effect }
 {
-    let session = shelves::no_session();
-    let film = shelves::no_film();
     Change {
         effect,
-        session,
-        film,
+        session: shelves::no_session(),
+        film: shelves::no_film(),
     }
 }
 
 pub fn change_with_session(effect: Effect, session: Session) -> Change
     ensures { result ≡ change_with_session effect session }
 {
-    let film = shelves::no_film();
     Change {
-        effect,
         session,
-        film,
+        ..change_by(effect)
     }
 }
 
 pub fn change_with_film(effect: Effect, film: Film) -> Change
     ensures { result ≡ change_with_film effect film }
 {
-    let session = shelves::no_session();
     Change {
-        effect,
-        session,
         film,
+        ..change_by(effect)
     }
 }
 
 // The next numbers.
 
 // "A session or film without a sent UID takes the next serial", and so does each box.
-fn put_serials_used(b: &mut [u8], serials: u64)
-    requires { (records_size ≤ length b.old) × SerialsLeft (core_in b.old) serials }
+fn put_serials_used(b: &mut Records, serials: u64)
+    requires { SerialsLeft (core_in b.old) serials }
     ensures { b.new ≡ write core_format (with_numbers (serials_used serials (core_in b.old).numbers) (core_in b.old)) b.old 0 }
 {
     let next = octets::number_at(b, AT_SERIAL, 5) + serials;
@@ -109,8 +103,8 @@ fn put_serials_used(b: &mut [u8], serials: u64)
 }
 
 // The next picture number is used where an image fills the box.
-fn put_picture_used(b: &mut [u8], fills: bool)
-    requires { (records_size ≤ length b.old) × PictureLeft (core_in b.old) fills }
+fn put_picture_used(b: &mut Records, fills: bool)
+    requires { PictureLeft (core_in b.old) fills }
     ensures { b.new ≡ write core_format (with_numbers (pick fills (picture_used (core_in b.old).numbers) (core_in b.old).numbers) (core_in b.old)) b.old 0 }
 {
     if fills {
@@ -119,100 +113,100 @@ fn put_picture_used(b: &mut [u8], fills: bool)
     }
 }
 
+// Where the film at a place of the shelf stands.
+fn film_place(place: usize) -> usize
+    requires { place < most_films }
+    ensures at { result ≡ shelf_place + 1 + place * film_size }
+    ensures within { result + film_size ≤ queue_place }
+{
+    AT_FILMS + place * FILM
+}
+
 // Created and set.
 
-fn put_session_set(b: &mut [u8], session: Session)
-    requires { records_size ≤ length b.old }
-    ensures { b.new ≡ write core_format (with_session 0 session (core_in b.old)) b.old 0 }
+fn put_session_set(b: &mut Records, session: &Session)
+    ensures { b.new ≡ write core_format (with_session 0 session.now (core_in b.old)) b.old 0 }
 {
-    records::put_session(b, AT_SESSIONS, session);
+    session.put(b, AT_SESSIONS);
 }
 
-fn put_session_created(b: &mut [u8], session: Session, serials: u64)
-    requires { (records_size ≤ length b.old) × SerialsLeft (core_in b.old) serials }
-    ensures { b.new ≡ write core_format (with_session 0 session (with_numbers (serials_used serials (core_in b.old).numbers) (core_in b.old))) b.old 0 }
+fn put_session_created(b: &mut Records, session: &Session, serials: u64)
+    requires { SerialsLeft (core_in b.old) serials }
+    ensures { b.new ≡ write core_format (with_session 0 session.now (with_numbers (serials_used serials (core_in b.old).numbers) (core_in b.old))) b.old 0 }
 {
     put_serials_used(b, serials);
-    records::put_session(b, AT_SESSIONS, session);
+    session.put(b, AT_SESSIONS);
 }
 
-fn put_film_set(b: &mut [u8], place: usize, film: Film)
-    requires { (records_size ≤ length b.old) × Tidy (core_in b.old) × FilmThere (core_in b.old) place }
-    ensures { b.new ≡ write core_format (with_film place film (core_in b.old)) b.old 0 }
+fn put_film_set(b: &mut Records, place: usize, film: &Film)
+    requires { Tidy (core_in b.old) × FilmThere (core_in b.old) place }
+    ensures { b.new ≡ write core_format (with_film place film.now (core_in b.old)) b.old 0 }
 {
-    records::put_film(b, AT_FILMS + place * FILM, film);
+    film.put(b, film_place(place));
 }
 
 // The film created last stands behind the others.
-fn put_film_created(b: &mut [u8], film: Film, serials: u64)
-    requires { (records_size ≤ length b.old) × Tidy (core_in b.old) × ((core_in b.old).shelf.count < most_films) × SerialsLeft (core_in b.old) serials }
-    ensures { b.new ≡ write core_format (with_films (films_of (core_in b.old).shelf ++ (film ∷ [])) (with_numbers (serials_used serials (core_in b.old).numbers) (core_in b.old))) b.old 0 }
+fn put_film_created(b: &mut Records, film: &Film, serials: u64)
+    requires { Tidy (core_in b.old) × ((core_in b.old).shelf.count < most_films) × SerialsLeft (core_in b.old) serials }
+    ensures { b.new ≡ write core_format (with_films (films_of (core_in b.old).shelf ++ (film.now ∷ [])) (with_numbers (serials_used serials (core_in b.old).numbers) (core_in b.old))) b.old 0 }
 {
     let count = b[AT_SHELF];
     put_serials_used(b, serials);
-    records::put_film(b, AT_FILMS + count as usize * FILM, film);
+    film.put(b, film_place(count as usize));
     fields::put_byte(b, AT_SHELF, count + 1);
 }
 
-fn put_box_set(b: &mut [u8], film: usize, place: usize, anew: ImageBox, fills: bool)
-    requires { (records_size ≤ length b.old) × Tidy (core_in b.old) × FilmThere (core_in b.old) film × (place < most_boxes) × PictureLeft (core_in b.old) fills }
-    ensures { b.new ≡ write core_format (box_changed (core_in b.old) film place anew fills) b.old 0 }
+fn put_box_set(b: &mut Records, film: usize, place: usize, anew: &ImageBox, fills: bool)
+    requires { Tidy (core_in b.old) × FilmThere (core_in b.old) film × (place < most_boxes) × PictureLeft (core_in b.old) fills }
+    ensures { b.new ≡ write core_format (box_changed (core_in b.old) film place anew.now fills) b.old 0 }
 {
     put_picture_used(b, fills);
-    records::put_image_box(
-        b,
-        AT_FILMS + film * FILM + FILM_BOXES + place * IMAGE_BOX,
-        anew,
-    );
+    anew.put(b, film_place(film) + FILM_BOXES + place * IMAGE_BOX);
 }
 
 // Printed and deleted.
 
-fn put_film_printed(b: &mut [u8], place: usize)
-    requires { (records_size ≤ length b.old) × Tidy (core_in b.old) × FilmThere (core_in b.old) place × (length (entries_of (core_in b.old).queue) < most_entries) }
+fn put_film_printed(b: &mut Records, place: usize)
+    requires { Tidy (core_in b.old) × FilmThere (core_in b.old) place × (length (entries_of (core_in b.old).queue) < most_entries) }
     ensures { b.new ≡ write core_format (printed (core_in b.old) (film_at (core_in b.old) place ∷ [])) b.old 0 }
 {
-    let core = records::core_at(b, 0);
+    let core = Core::read_at(b, 0);
     let after = printing::printed_film(core, place);
-    records::put_core(b, 0, after);
+    after.put(b, 0);
 }
 
-fn put_session_printed(b: &mut [u8])
-    requires { (records_size ≤ length b.old) × Tidy (core_in b.old) × AllUnder (core_in b.old) × (length (entries_of (core_in b.old).queue) + length (films_under 0 (core_in b.old).shelf) ≤ most_entries) }
+fn put_session_printed(b: &mut Records)
+    requires { Tidy (core_in b.old) × AllUnder (core_in b.old) × (length (entries_of (core_in b.old).queue) + length (films_under 0 (core_in b.old).shelf) ≤ most_entries) }
     ensures { b.new ≡ write core_format (printed (core_in b.old) (films_under 0 (core_in b.old).shelf)) b.old 0 }
 {
-    let core = records::core_at(b, 0);
+    let core = Core::read_at(b, 0);
     let after = printing::printed_session(core);
-    records::put_core(b, 0, after);
+    after.put(b, 0);
 }
 
 // The films behind one, each a place further down: their bytes.
-fn move_films_down(b: &mut [u8], from: usize)
-    requires { (records_size ≤ length b.old) × (from + film_size ≤ queue_place) }
+fn move_films_down(b: &mut Records, from: usize)
+    requires { from + film_size ≤ queue_place }
     ensures { b.new ≡ laid b.old from (part b.old (from + film_size) queue_place) }
 {
-    let mut p = from;
-    while p < AT_LAST_FILM {
-        b[p] = b[p + FILM];
-        p += 1;
-    }
+    b.copy_within(from + FILM..AT_QUEUE, from);
 }
 
 // The last place is blank then: all zeros.
-fn put_film_deleted(b: &mut [u8], place: usize)
-    requires { (records_size ≤ length b.old) × Tidy (core_in b.old) × FilmThere (core_in b.old) place }
+fn put_film_deleted(b: &mut Records, place: usize)
+    requires { Tidy (core_in b.old) × FilmThere (core_in b.old) place }
     ensures { b.new ≡ write core_format (film_deleted (core_in b.old) place) b.old 0 }
 {
     let count = b[AT_SHELF];
-    move_films_down(b, AT_FILMS + place * FILM);
+    move_films_down(b, film_place(place));
     let blank = [0u8; FILM];
     octets::put(b, AT_LAST_FILM, &blank);
     fields::put_byte(b, AT_SHELF, count - 1);
 }
 
 // A session that is not there, and a shelf without films, are all zeros; they stand side by side.
-fn put_session_deleted(b: &mut [u8])
-    requires { (records_size ≤ length b.old) × NoneBeside (core_in b.old) }
+fn put_session_deleted(b: &mut Records)
+    requires { NoneBeside (core_in b.old) }
     ensures { b.new ≡ write core_format (session_deleted (core_in b.old) 0) b.old 0 }
 {
     let blank = [0u8; PLACES + SHELF];
@@ -220,8 +214,8 @@ fn put_session_deleted(b: &mut [u8])
 }
 
 // The records after a change: what it changes is written, and all else stands as it stood.
-pub fn put_change(b: &mut [u8], change: Change)
-    requires { (records_size ≤ length b.old) × Tidy (core_in b.old) × Fits (core_in b.old) change }
+pub fn put_change(b: &mut Records, change: Change)
+    requires { Tidy (core_in b.old) × Fits (core_in b.old) change }
     ensures { b.new ≡ write core_format (changed (core_in b.old) change) b.old 0 }
 {
     let effect = change.effect;
@@ -229,16 +223,16 @@ pub fn put_change(b: &mut [u8], change: Change)
     let film = change.film;
     match effect {
         Effect::Kept => {}
-        Effect::SessionCreated(serials) => put_session_created(b, session, serials),
-        Effect::SessionSet => put_session_set(b, session),
-        Effect::FilmCreated(serials) => put_film_created(b, film, serials),
-        Effect::FilmSet(place) => put_film_set(b, place, film),
+        Effect::SessionCreated(serials) => put_session_created(b, &session, serials),
+        Effect::SessionSet => put_session_set(b, &session),
+        Effect::FilmCreated(serials) => put_film_created(b, &film, serials),
+        Effect::FilmSet(place) => put_film_set(b, place, &film),
         Effect::BoxSet {
             film,
             place,
             image_box,
             fills,
-        } => put_box_set(b, film, place, image_box, fills),
+        } => put_box_set(b, film, place, &image_box, fills),
         Effect::FilmPrinted(place) => put_film_printed(b, place),
         Effect::SessionPrinted => put_session_printed(b),
         Effect::FilmDeleted(place) => put_film_deleted(b, place),

@@ -1,5 +1,5 @@
 -- Rows of rules: the first that is broken gives the number.
-use Rattle.std.specs.Prelude.{ℕ, Bool, true, List, [], ◌∷◌, eqb}
+use Rattle.std.specs.Prelude.{ℕ, Bool, true, List, [], ◌∷◌, eqb, Result, Ok, Err}
 use Rattle.choice.specs.Pick.{pick, both, not}
 
 -- a rule: the test that breaks it, and the number of its refusal
@@ -20,3 +20,8 @@ first_broken rules = first_or (λ n. n) rules 0
 abbrev pub numbered : List Rule → Bool
 numbered [] = true
 numbered ((broken ⇒ n) ∷ rules) = both (not (eqb n 0)) (numbered rules)
+
+-- the number that a test of rules comes to: that of the broken rule which it found, 0 where it found none
+abbrev pub number_by : {A E : Type 0} → (E → ℕ) → Result A E → ℕ
+number_by number (Ok x) = 0
+number_by number (Err e) = number e

@@ -3,11 +3,14 @@
 use Prim.Native.Nat.{ℕ, ◌+◌, ◌-◌, ◌≤◌, ◌<◌, ◌/◌}
 use mathlib.Core.Path.{◌≡◌}
 use mathlib.Core.Logic.{◌≢◌}
-use mathlib.Core.Bool.{true, false}
+use mathlib.Core.Bool as bool
+use mathlib.Core.Bool.{true}
 use mathlib.Core.List.{List}
 use native.Mathlib.Omega.{arith}
 use lib.ListN.{length}
 use borrow.Author.Tests.{lt-ltb, le-ltb, eq-eqb, ne_eqb}
+use lib.Dec.{eqb}
+use Rattle.choice.proofs.Picks.{nots}
 use Rattle.strike.specs.Machine.{length_told, context_byte, control_byte, header_wrong}
 
 module _ (context : ℕ) (bytes : List ℕ) where
@@ -33,12 +36,7 @@ module _ (context : ℕ) (bytes : List ℕ) where
         unfolding header_wrong
         context_other ne = simp (le-ltb (length bytes) 6 h, le-ltb (length_told bytes) 2 l, eq-eqb (length_told bytes + 4) (length bytes) all, ne_eqb (context_byte bytes) context ne)
 
-        pub control_other : context_byte bytes ≡ context → control_byte bytes / 4 ≢ 0 → true ≡ header_wrong context bytes
+        pub control_told : context_byte bytes ≡ context → bool.not (eqb (control_byte bytes / 4) 0) ≡ header_wrong context bytes
         unfolding header_wrong
-        control_other e ne =
-            simp (le-ltb (length bytes) 6 h, le-ltb (length_told bytes) 2 l, eq-eqb (length_told bytes + 4) (length bytes) all, eq-eqb (context_byte bytes) context e, ne_eqb (control_byte bytes / 4) 0 ne)
-
-        pub not_wrong : context_byte bytes ≡ context → control_byte bytes / 4 ≡ 0 → false ≡ header_wrong context bytes
-        unfolding header_wrong
-        not_wrong e f =
-            simp (le-ltb (length bytes) 6 h, le-ltb (length_told bytes) 2 l, eq-eqb (length_told bytes + 4) (length bytes) all, eq-eqb (context_byte bytes) context e, eq-eqb (control_byte bytes / 4) 0 f)
+        control_told e =
+            simp (le-ltb (length bytes) 6 h, le-ltb (length_told bytes) 2 l, eq-eqb (length_told bytes + 4) (length bytes) all, eq-eqb (context_byte bytes) context e, nots)

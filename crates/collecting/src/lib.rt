@@ -3,16 +3,13 @@
 
 ghost use Rattle.std.specs.Prelude.{◌≡◌, ◌+◌, ◌≤◌, ◌<◌, ◌++◌, leb, length, take};
 ghost use Rattle.strike.specs.Machine.{header_wrong, collect, laid_by, reads, stores, overflows, dataset};
-ghost use Rattle.rules.specs.Sound.{readable};
 ghost use Rattle.rules.specs.Calls.{reading};
-ghost use Rattle.rules.specs.Layout.{records_size};
 ghost use Rattle.rules.specs.Records.{command_held};
 ghost use Rattle.rules.specs.Outcomes.{held, input_in};
 ghost use Rattle.records.specs.Places.{held_in};
 ghost use Rattle.collecting.specs.Collecting.{Filled, Met, stored_in, waits_with, state_of, number_of, gathers_to, stores_to, command_next, data_next, command_before, bare, holds, data_answer, collected_of, of_command, is_last, fragment_of, gathered_in};
 
-use records::{AT_COMMAND, AT_GOT, AT_INPUT, AT_USED};
-use rules::Command;
+use records::{AT_COMMAND, AT_GOT, AT_INPUT, AT_USED, Records};
 use strike::{Came, Reading};
 
 // "One message is collected through idle, in command, skipping command, in data and skipping data."
@@ -35,38 +32,6 @@ pub enum Answer {
 }
 
 impl Collecting {
-    // The state that a number of the records stands for.
-    fn of(phase: u8) -> Collecting
-        ensures { result ≡ state_of phase }
-    {
-        if phase == 1 {
-            return Collecting::InCommand;
-        }
-        if phase == 2 {
-            return Collecting::SkippingCommand;
-        }
-        if phase == 3 {
-            return Collecting::InData;
-        }
-        if phase == 4 {
-            return Collecting::SkippingData;
-        }
-        Collecting::Idle
-    }
-
-    // The number that the records have for it.
-    fn number(self) -> u8
-        ensures { result ≡ number_of self }
-    {
-        match self {
-            Collecting::Idle => 0,
-            Collecting::InCommand => 1,
-            Collecting::SkippingCommand => 2,
-            Collecting::InData => 3,
-            Collecting::SkippingData => 4,
-        }
-    }
-
     // The next state, after a command fragment that fits its buffer or not; a whole command is in data until it is read.
     fn after_command(self, fits: bool, last: bool) -> Collecting
         ensures { result ≡ command_next self fits last }
@@ -90,6 +55,37 @@ impl Collecting {
             Collecting::SkippingCommand => Collecting::Idle,
             Collecting::InData => stores_to(fits, last),
             Collecting::SkippingData => stores_to(false, last),
+        }
+    }
+}
+
+// The state that a number of the records stands for.
+impl From<u8> for Collecting {
+    ghost from_gives = { λ phase state. state ≡ state_of phase };
+
+    #[tactic(auto, unfolding(crate::specs::Collecting::state_of))]
+    fn from(phase: u8) -> Collecting {
+        match phase {
+            1 => Collecting::InCommand,
+            2 => Collecting::SkippingCommand,
+            3 => Collecting::InData,
+            4 => Collecting::SkippingData,
+            _ => Collecting::Idle,
+        }
+    }
+}
+
+// The number that the records have for it.
+impl From<Collecting> for u8 {
+    ghost from_gives = { λ state phase. phase ≡ number_of state };
+
+    fn from(state: Collecting) -> u8 {
+        match state {
+            Collecting::Idle => 0,
+            Collecting::InCommand => 1,
+            Collecting::SkippingCommand => 2,
+            Collecting::InData => 3,
+            Collecting::SkippingData => 4,
         }
     }
 }
@@ -124,31 +120,28 @@ fn stores_to(fits: bool, last: bool) -> Collecting
 
 // The input, where it lies in the records.
 
-fn phase(b: &[u8]) -> u8
-    requires { records_size ≤ length b.now }
+fn phase(b: &Records) -> u8
     ensures { result ≡ (held_in b.now).phase }
 {
     b[AT_INPUT]
 }
 
-fn used(b: &[u8]) -> usize
-    requires { records_size ≤ length b.now }
+fn used(b: &Records) -> usize
     ensures { (result ≡ (held_in b.now).used) × (result < 65536) }
 {
     octets::u16_at(b, AT_USED)
 }
 
 // How many bytes of data the message buffer has.
-pub fn got(b: &[u8]) -> usize
-    requires { records_size ≤ length b.now }
+pub fn got(b: &Records) -> usize
     ensures { (result ≡ (held_in b.now).got) × (result < 4294967296) }
 {
     octets::u32_at(b, AT_GOT)
 }
 
 // The command so far, or all of it.
-pub fn command_held(b: &[u8]) -> &[u8]
-    requires { (records_size ≤ length b.now) × Filled (held_in b.now) }
+pub fn command_held(b: &Records) -> &[u8]
+    requires { Filled (held_in b.now) }
     ensures { result.now ≡ command_held (held_in b.now) }
 {
     let stop = AT_COMMAND + used(b);
@@ -156,28 +149,27 @@ pub fn command_held(b: &[u8]) -> &[u8]
 }
 
 // Nothing is held.
-fn nothing(b: &mut [u8], answer: Answer, state: Collecting) -> Answer
-    requires { records_size ≤ length b.old }
+fn nothing(b: &mut Records, answer: Answer, state: Collecting) -> Answer
     ensures { Met (bare answer state) result b.old b.new }
 {
     opening::put_no_input(b);
-    fields::put_byte(b, AT_INPUT, state.number());
+    fields::put_byte(b, AT_INPUT, u8::from(state));
     answer
 }
 
 // The command stays: of a message whose command is whole, or that goes on.
-fn holding(b: &mut [u8], answer: Answer, state: Collecting, got: usize) -> Answer
-    requires { (records_size ≤ length b.old) × Filled (held_in b.old) × (got < 4294967296) }
+fn holding(b: &mut Records, answer: Answer, state: Collecting, got: usize) -> Answer
+    requires { Filled (held_in b.old) × (got < 4294967296) }
     ensures { Met (holds answer state (held_in b.old) got) result b.old b.new }
 {
-    fields::put_byte(b, AT_INPUT, state.number());
+    fields::put_byte(b, AT_INPUT, u8::from(state));
     fields::put_number(b, AT_GOT, 4, got as u64);
     answer
 }
 
-// In command; a new message starts with no command.
-fn begun(b: &mut [u8]) -> Answer
-    requires { (records_size ≤ length b.old) × Filled (held_in b.old) }
+// In command, told by its number as the book tells it; a new message starts with no command.
+fn begun(b: &mut Records) -> Answer
+    requires { Filled (held_in b.old) }
     ensures { Met (waits_with (held 1 (command_before (held_in b.old)) 0)) result b.old b.new }
 {
     if phase(b) == 1 {
@@ -187,19 +179,16 @@ fn begun(b: &mut [u8]) -> Answer
 }
 
 // How much of a command a fragment is appended to: a new message starts with none.
-fn used_before(b: &[u8]) -> usize
-    requires { (records_size ≤ length b.now) × Filled (held_in b.now) }
+fn used_before(b: &Records) -> usize
+    requires { Filled (held_in b.now) }
     ensures { (result ≡ length (command_before (held_in b.now))) × (result ≤ 1024) }
 {
-    if phase(b) == 1 {
-        return used(b);
-    }
-    0
+    if phase(b) == 1 { used(b) } else { 0 }
 }
 
 // The command so far, in command, with a fragment's bytes behind its own.
-fn gathered(b: &mut [u8], bytes: &[u8]) -> Answer
-    requires { (records_size ≤ length b.old) × Filled (held_in b.old) × (length (command_before (held_in b.old)) + length bytes.now ≤ 1024) }
+fn gathered(b: &mut Records, bytes: &[u8]) -> Answer
+    requires { Filled (held_in b.old) × (length (command_before (held_in b.old)) + length bytes.now ≤ 1024) }
     ensures { Met (waits_with (held 1 (command_before (held_in b.old) ++ bytes.now) 0)) result b.old b.new }
 {
     let used = used_before(b);
@@ -209,37 +198,24 @@ fn gathered(b: &mut [u8], bytes: &[u8]) -> Answer
     answer
 }
 
-fn readable(command: Command) -> bool
-    ensures { result ≡ readable command }
-{
-    match command {
-        Command::Unreadable => false,
-        Command::Unknown {
-            message: _,
-            field: _,
-        } => true,
-        Command::Known(_) => true,
-    }
-}
-
 // What a whole command says of the message.
 fn read_as(c: &[u8]) -> Reading
     ensures { result ≡ reading c.now }
 {
     let said = commands::said(c);
-    let command = said.command;
-    if !readable(command) {
+    if !soundness::is_readable(said.command) {
         return Reading::NotReadable;
     }
     if said.with_data {
-        return Reading::WithData;
+        Reading::WithData
+    } else {
+        Reading::Alone
     }
-    Reading::Alone
 }
 
 // "an unreadable command is dropped, idle. Without data set the request is done at once; else in data."
-fn read(b: &mut [u8]) -> Answer
-    requires { (records_size ≤ length b.old) × Filled (held_in b.old) }
+fn read(b: &mut Records) -> Answer
+    requires { Filled (held_in b.old) }
     ensures { Met (collected_of (reads (reading (command_held (held_in b.old))) (command_held (held_in b.old)))) result b.old b.new }
 {
     let reads = read_as(command_held(b));
@@ -251,11 +227,11 @@ fn read(b: &mut [u8]) -> Answer
 }
 
 // The next state by n bytes of a command; they are measured before any is copied.
-fn command_next(b: &[u8], n: usize, last: bool) -> Collecting
-    requires { (records_size ≤ length b.now) × Filled (held_in b.now) }
+fn command_next(b: &Records, n: usize, last: bool) -> Collecting
+    requires { Filled (held_in b.now) }
     ensures { result ≡ command_next (state_of (held_in b.now).phase) (leb (length (command_before (held_in b.now)) + n) 1024) last }
 {
-    let state = Collecting::of(phase(b));
+    let state = Collecting::from(phase(b));
     if 1024 - used_before(b) < n {
         return state.after_command(false, last);
     }
@@ -263,8 +239,8 @@ fn command_next(b: &[u8], n: usize, last: bool) -> Collecting
 }
 
 // A command fragment: what it comes to, by the next state; none leads to skipping data.
-fn by_command(b: &mut [u8], bytes: &[u8], last: bool) -> Answer
-    requires { (records_size ≤ length b.old) × Filled (held_in b.old) }
+fn by_command(b: &mut Records, bytes: &[u8], last: bool) -> Answer
+    requires { Filled (held_in b.old) }
     ensures { Met (collected_of (gathered_in (state_of (held_in b.old).phase) (command_before (held_in b.old) ++ bytes.now) last)) result b.old b.new }
 {
     let next = command_next(b, bytes.len(), last);
@@ -291,8 +267,8 @@ fn data_answer(last: bool, came: Came) -> Answer
 }
 
 // "all is skipped to the last one, then answered"
-fn overflowed(b: &mut [u8], last: bool) -> Answer
-    requires { (records_size ≤ length b.old) × Filled (held_in b.old) }
+fn overflowed(b: &mut Records, last: bool) -> Answer
+    requires { Filled (held_in b.old) }
     ensures { Met (collected_of (overflows (command_held (held_in b.old)) last)) result b.old b.new }
 {
     let next = Collecting::SkippingData.after_data(false, last);
@@ -300,8 +276,8 @@ fn overflowed(b: &mut [u8], last: bool) -> Answer
 }
 
 // A data fragment in data: its bytes are measured before any is copied.
-fn stored(b: &mut [u8], message: &mut [u8], bytes: &[u8], last: bool) -> Answer
-    requires { (records_size ≤ length b.old) × Filled (held_in b.old) × ((held_in b.old).got ≤ length message.old) × (length message.old < 4294967296) }
+fn stored(b: &mut Records, message: &mut [u8], bytes: &[u8], last: bool) -> Answer
+    requires { Filled (held_in b.old) × ((held_in b.old).got ≤ length message.old) × (length message.old < 4294967296) }
     ensures { Met (collected_of (stores (length message.old) (command_held (held_in b.old)) (take (held_in b.old).got message.old ++ bytes.now) last)) result b.old b.new × (message.new ≡ stored_in (held_in b.old).got message.old bytes.now) }
 {
     let before = got(b);
@@ -319,11 +295,11 @@ fn stored(b: &mut [u8], message: &mut [u8], bytes: &[u8], last: bool) -> Answer
 }
 
 // A data fragment: what it comes to, by the state that it is met in.
-fn by_data(b: &mut [u8], message: &mut [u8], bytes: &[u8], last: bool) -> Answer
-    requires { (records_size ≤ length b.old) × Filled (held_in b.old) × ((held_in b.old).got ≤ length message.old) × (length message.old < 4294967296) }
+fn by_data(b: &mut Records, message: &mut [u8], bytes: &[u8], last: bool) -> Answer
+    requires { Filled (held_in b.old) × ((held_in b.old).got ≤ length message.old) × (length message.old < 4294967296) }
     ensures { Met (collected_of (collect reading (length message.old) (input_in (held_in b.old) message.old) (dataset last bytes.now))) result b.old b.new × (message.new ≡ laid_by (length message.old) (input_in (held_in b.old) message.old) (dataset last bytes.now) message.old) }
 {
-    let state = Collecting::of(phase(b));
+    let state = Collecting::from(phase(b));
     match state {
         Collecting::Idle => nothing(b, Answer::Ignored, Collecting::Idle),
         Collecting::InCommand => nothing(b, Answer::Dropped, Collecting::Idle),
@@ -351,10 +327,7 @@ pub fn header_wrong(context: u8, fragment: &[u8]) -> bool
     if fragment[4] != context {
         return true;
     }
-    if fragment[5] / 4 != 0 {
-        return true;
-    }
-    false
+    fragment[5] / 4 != 0
 }
 
 fn is_command(fragment: &[u8]) -> bool
@@ -372,8 +345,8 @@ fn is_last(fragment: &[u8]) -> bool
 }
 
 // A fragment whose header is not wrong: what it comes to, what is held of it in the records, and its data in the message buffer.
-pub fn collect(b: &mut [u8], message: &mut [u8], fragment: &[u8]) -> Answer
-    requires { (records_size ≤ length b.old) × Filled (held_in b.old) × ((held_in b.old).got ≤ length message.old) × (length message.old < 4294967296) × (6 ≤ length fragment.now) }
+pub fn collect(b: &mut Records, message: &mut [u8], fragment: &[u8]) -> Answer
+    requires { Filled (held_in b.old) × ((held_in b.old).got ≤ length message.old) × (length message.old < 4294967296) × (6 ≤ length fragment.now) }
     ensures { Met (collected_of (collect reading (length message.old) (input_in (held_in b.old) message.old) (fragment_of fragment.now))) result b.old b.new × (message.new ≡ laid_by (length message.old) (input_in (held_in b.old) message.old) (fragment_of fragment.now) message.old) }
 {
     let last = is_last(fragment);

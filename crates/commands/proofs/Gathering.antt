@@ -9,17 +9,14 @@ use lib.Dec.{ltb, eqb}
 use lib.ListN.{length, get_or, set, replicate, length-set, get_or-replicate}
 use lib.Seq.{get_or-set_same, get_or-set_other}
 use borrow.Author.Tests.{ltb-true, ltb-false, eqb-true, eqb-false, lt-ltb, le-ltb}
+use Rattle.std.specs.Prelude.{Option, Some, None, Result, Ok, Err}
 use Rattle.choice.specs.Pick.{both}
-use Rattle.choice.proofs.Picks.{pick_cases, both_fails, clash}
+use Rattle.choice.proofs.Picks.{pick_cases, both_fails}
 use Rattle.headers.specs.declared.Syntax.TheVariants.{Implicit}
 use Rattle.headers.specs.declared.Part.{Part}
-use Rattle.headers.specs.declared.Close.TheVariants.{Here, Not}
-use Rattle.headers.specs.declared.Close.{Close}
 use Rattle.headers.specs.declared.Head.{Head}
 use Rattle.headers.specs.Header.{tag_at, head_at, close_at}
 use Rattle.elements.specs.declared.Stop.{Stop}
-use Rattle.elements.specs.declared.Read.{Read}
-use Rattle.elements.specs.declared.Read.TheVariants.{Past, Refused}
 use Rattle.elements.specs.declared.Found.{Found}
 use Rattle.elements.specs.Reader.{Mark, whole, item_end, element_at, list_from, list_at, data_set, data_scope}
 use Rattle.elements.specs.Find.{elements_from, among, found, find_at}
@@ -44,19 +41,19 @@ unfolding whole_command whole_from group_zero data_set list_at
 whole_start c = refl
 
 module _ (c : List ℕ) (at floor : ℕ) (h : at ≤ length c) where
-  whole_done : {q : ℕ} → close_at c item_end (whole c) at ≡ Here q → whole_from c at floor ≡ true
+  whole_done : {q : ℕ} → close_at c item_end (whole c) at ≡ Some q → whole_from c at floor ≡ true
   unfolding whole_from every
   whole_done k = rw (list_done c Implicit 4 (whole c) at h floor k, elements_done c (data_scope c Implicit) at h floor k)
 
-  whole_refused : {stop : Stop} → close_at c item_end (whole c) at ≡ Not → element_at c Implicit 4 (length c) at floor ≡ Refused stop → whole_from c at floor ≡ false
+  whole_refused : {stop : Stop} → close_at c item_end (whole c) at ≡ None → element_at c Implicit 4 (length c) at floor ≡ Err stop → whole_from c at floor ≡ false
   unfolding whole_from
   whole_refused k e = rw (list_refused c Implicit 4 (whole c) at h floor k e)
 
-  whole_other : {q : ℕ} → close_at c item_end (whole c) at ≡ Not → element_at c Implicit 4 (length c) at floor ≡ Past q → 65536 ≤ tag_at c at → whole_from c at floor ≡ false
+  whole_other : {q : ℕ} → close_at c item_end (whole c) at ≡ None → element_at c Implicit 4 (length c) at floor ≡ Ok q → 65536 ≤ tag_at c at → whole_from c at floor ≡ false
   unfolding whole_from every
   whole_other k e t = rw (elements_more c (data_scope c Implicit) at h floor k e, le-ltb (tag_at c at) 65536 t) (both_fails (is_read (list_from (element_at c Implicit 4) c (whole c) (mark at floor))))
 
-  whole_more : {q : ℕ} → close_at c item_end (whole c) at ≡ Not → element_at c Implicit 4 (length c) at floor ≡ Past q → tag_at c at < 65536 → whole_from c at floor ≡ whole_from c q (tag_at c at + 1)
+  whole_more : {q : ℕ} → close_at c item_end (whole c) at ≡ None → element_at c Implicit 4 (length c) at floor ≡ Ok q → tag_at c at < 65536 → whole_from c at floor ≡ whole_from c q (tag_at c at + 1)
   unfolding whole_from every
   whole_more k e t = rw (list_more c Implicit 4 (whole c) at h floor k e, elements_more c (data_scope c Implicit) at h floor k e, lt-ltb (tag_at c at) 65536 t)
 
@@ -83,12 +80,12 @@ unfolding find_at
 known_start c tag = record { below = λ l. absurd (omega arith); above = λ l. (refl, refl) }
 
 module _ (c : List ℕ) (at floor : ℕ) (h : at ≤ length c) (tag : ℕ) (p : Part) (known : Known c at floor tag p) where
-  known_done : {q : ℕ} → close_at c item_end (whole c) at ≡ Here q → p ≡ placed (in_command c tag)
+  known_done : {q : ℕ} → close_at c item_end (whole c) at ≡ Some q → p ≡ placed (in_command c tag)
   known_done k =
       by_order tag floor known.below
       (λ l. (known.above l).0 ∙ sym ((known.above l).1 ∙ ap placed (find_done c (data_scope c Implicit) at h floor tag k)))
 
-  module _ {q : ℕ} (k : close_at c item_end (whole c) at ≡ Not) (e : element_at c Implicit 4 (length c) at floor ≡ Past q) where
+  module _ {q : ℕ} (k : close_at c item_end (whole c) at ≡ None) (e : element_at c Implicit 4 (length c) at floor ≡ Ok q) where
     known_here : tag_at c at ≡ tag → Known c q (tag_at c at + 1) tag (placed (found (head_at c Implicit (length c) at floor)))
     known_here t =
         let l = element_above c Implicit 4 (length c) at floor q e in
@@ -142,10 +139,10 @@ gathering_start c =
     }
 
 module _ (c : List ℕ) (at floor : ℕ) (h : at ≤ length c) (parts : List Part) (g : Gathering c at floor parts) where
-  gathering_done : {q : ℕ} → close_at c item_end (whole c) at ≡ Here q → Holds c parts
+  gathering_done : {q : ℕ} → close_at c item_end (whole c) at ≡ Some q → Holds c parts
   gathering_done k = record { all = g.all; each = λ tag l. known_done c at floor h tag _ (g.each tag l) k }
 
-  module _ {q : ℕ} (k : close_at c item_end (whole c) at ≡ Not) (e : element_at c Implicit 4 (length c) at floor ≡ Past q) where
+  module _ {q : ℕ} (k : close_at c item_end (whole c) at ≡ None) (e : element_at c Implicit 4 (length c) at floor ≡ Ok q) where
     told_each : (tag : ℕ) → slot_of tag < 9 → (t : Bool) → eqb (slot_of (tag_at c at)) (slot_of tag) ≡ t → Known c q (tag_at c at + 1) tag (get_or (set parts (slot_of (tag_at c at)) (placed (found (head_at c Implicit (length c) at floor)))) (slot_of tag) no_part)
     told_each tag l true t =
         let same = eqb-true (slot_of (tag_at c at)) (slot_of tag) t in
@@ -162,25 +159,25 @@ module _ (c : List ℕ) (at floor : ℕ) (h : at ≤ length c) (parts : List Par
 -- One turn of the walk, by what the code tells on its way.
 
 module _ (c : List ℕ) (at floor : ℕ) (parts : List Part) (inv : (at ≤ length c) × (whole_command c ≡ whole_from c at floor) × Gathering c at floor parts)
-    (x : Close) (closes : x ≡ close_at c item_end (whole c) at) where
-  pub walk_done : {q : ℕ} → x ≡ Here q → Gathers c (record { whole = true; parts = parts })
+    (x : Option ℕ) (closes : x ≡ close_at c item_end (whole c) at) where
+  pub walk_done : {q : ℕ} → x ≡ Some q → Gathers c (Some parts)
   walk_done e =
       let k = sym closes ∙ e in
-      record { told = sym (inv.1 ∙ whole_done c at floor inv.0 k); held = λ _. gathering_done c at floor inv.0 parts inv.2 k }
+      (inv.1 ∙ whole_done c at floor inv.0 k, gathering_done c at floor inv.0 parts inv.2 k)
 
-  module _ (on : x ≡ Not) (y : Read) (reads : y ≡ element_at c Implicit 4 (length c) at floor) where
-    stops : whole_from c at floor ≡ false → Gathers c (record { whole = false; parts = parts })
-    stops e = record { told = sym (inv.1 ∙ e); held = λ t. absurd (clash refl t) }
+  module _ (on : x ≡ None) (y : Result ℕ Stop) (reads : y ≡ element_at c Implicit 4 (length c) at floor) where
+    stops : whole_from c at floor ≡ false → Gathers c None
+    stops e = inv.1 ∙ e
 
-    pub walk_refused : {stop : Stop} → y ≡ Refused stop → Gathers c (record { whole = false; parts = parts })
+    pub walk_refused : {stop : Stop} → y ≡ Err stop → Gathers c None
     walk_refused e = stops (whole_refused c at floor inv.0 (sym closes ∙ on) (sym reads ∙ e))
 
-    module _ {q : ℕ} (past : y ≡ Past q) where
+    module _ {q : ℕ} (past : y ≡ Ok q) where
       pub walk_past : (at + 8 ≤ q) × (q ≤ length c)
       walk_past = element_past c Implicit (length c) at floor inv.0 4 (sym reads ∙ past)
 
       module _ (t : ℕ) (tag : t ≡ tag_at c at) where
-        pub walk_other : 65536 ≤ t → Gathers c (record { whole = false; parts = parts })
+        pub walk_other : 65536 ≤ t → Gathers c None
         walk_other h = stops (whole_other c at floor inv.0 (sym closes ∙ on) (sym reads ∙ past) (rw tag at h))
 
         pub walk_on : t < 65536 → (head : Head) → head ≡ head_at c Implicit (length c) at floor → (i : ℕ) → i ≡ slot_of t → (p : Part) → p ≡ placed (found head)
@@ -190,5 +187,3 @@ module _ (c : List ℕ) (at floor : ℕ) (parts : List Part) (inv : (at ≤ leng
           rw tag (inv.1 ∙ whole_more c at floor inv.0 (sym closes ∙ on) (sym reads ∙ past) (rw tag at h)),
           rw (ei, ep, eh, tag) (gathering_more c at floor inv.0 parts inv.2 (sym closes ∙ on) (sym reads ∙ past)),
         )
-
-pub ruleset walks = (walk_refused, walk_other)

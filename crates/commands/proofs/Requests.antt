@@ -1,20 +1,19 @@
 -- What a command says, by what the code tells of it on its way: `search` finds the way that a return took.
 -- Assumes nothing.
-use Prim.Native.Nat.{ℕ, ◌<◌}
-use mathlib.Core.Path.{◌≡◌, sym, ◌∙◌}
-use mathlib.Core.Bool as bool
+use Prim.Native.Nat.{ℕ}
+use mathlib.Core.Path.{◌≡◌, ◌∙◌}
 use mathlib.Core.Bool.{Bool, true, false}
 use mathlib.Core.List.{List}
 use native.Mathlib.Omega.{arith}
 use lib.Dec.{eqb, ltb}
-use lib.ListN.{length, get_or}
+use lib.ListN.{get_or}
 use borrow.Author.Tests.{eq-eqb, ne_eqb}
 use Rattle.octets.specs.Octets.{number_at}
 use Rattle.headers.specs.declared.Part.{Part}
 use Rattle.rules.specs.declared.Command.{Command}
 use Rattle.rules.specs.declared.Command.TheVariants.{Unreadable, Unknown}
 use Rattle.rules.specs.declared.Operation.TheVariants.{Act}
-use Rattle.rules.specs.Commands.{no_part, size, field, has_number, has_target, request_in}
+use Rattle.rules.specs.Commands.{no_part, size, field, has_target, request_in}
 use Rattle.commands.specs.Places.{slot_of, Holds}
 use Rattle.commands.specs.Requests.{has_numbers, known_as, echo_in, creation_in, setting_in, action_in, deletion_in}
 use Rattle.commands.proofs.Held.{held_size, held_number}

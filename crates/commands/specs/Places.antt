@@ -1,11 +1,10 @@
 -- The places of a command: where the value of each element that is looked at stands, and one for all others.
-use Rattle.std.specs.Prelude.{ℕ, ◌<◌, ◌≡◌, Bool, true, List, eqb, length, get_or}
+use Rattle.std.specs.Prelude.{ℕ, ◌<◌, ◌≡◌, Bool, true, false, List, eqb, length, get_or, Option, Some, None}
 use Rattle.choice.specs.Pick.{pick, both}
 use Rattle.headers.specs.declared.Syntax.TheVariants.{Implicit}
 use Rattle.headers.specs.declared.Part.{Part}
 use Rattle.elements.specs.Reader.{data_set}
 use Rattle.rules.specs.Commands.{in_command, no_part, placed, is_read, group_zero}
-use Rattle.commands.specs.declared.Places.{Places}
 
 -- which place is that of a tag; 9 is that of all others
 unfoldable pub slot_of : ℕ → ℕ
@@ -29,6 +28,7 @@ pub record Holds (c : List ℕ) (places : List Part) : Type 0 where
 unfoldable pub whole_command : List ℕ → Bool
 whole_command c = both (is_read (data_set c Implicit)) (group_zero c)
 
-pub record Gathers (c : List ℕ) (places : Places) : Type 0 where
-  pub told : places.whole ≡ whole_command c
-  pub held : places.whole ≡ true → Holds c places.parts
+-- the places of a whole command, and nothing of another
+abbrev pub Gathers : List ℕ → Option (List Part) → Type 0
+Gathers c None = whole_command c ≡ false
+Gathers c (Some places) = (whole_command c ≡ true) × Holds c places

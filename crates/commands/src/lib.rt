@@ -14,8 +14,8 @@ ghost use Rattle.rules.specs.Commands.{placed, size, uid_at, has_target, length_
 ghost use Rattle.commands.specs.Places.{slot_of, Holds, Gathers};
 ghost use Rattle.commands.specs.Requests.{has_numbers, known_as, target_in, echo_in, creation_in, setting_in, action_in, deletion_in};
 
-use elements::{NESTED, Read};
-use headers::{Close, Head, Inside, Part, Syntax};
+use elements::{ITEM_END, NESTED, Stop};
+use headers::{Head, Inside, Part, Syntax};
 use rules::{Action, Command, Creation, Operation, Request, Target, Verification};
 
 // The places of a command: one for each element that is looked at, and one for all others.
@@ -39,47 +39,22 @@ const ACTION_TYPE: usize = 8;
 
 const OTHERS: usize = 9;
 
-const ITEM_END: usize = 0xFFFE_E00D;
-
-// Whether a command is whole, read to its end with all elements in group 0000, and then its places.
-#[derive(Clone, Copy)]
-struct Places {
-    whole: bool,
-    parts: [Part; 10],
-}
-
 // Which place is that of a tag.
 fn slot(tag: usize) -> usize
     ensures { (result ≡ slot_of tag) × (result < 10) }
 {
-    if tag == 0x0000_0000 {
-        return LENGTH;
+    match tag {
+        0x0000_0000 => LENGTH,
+        0x0000_0002 => AFFECTED_CLASS,
+        0x0000_0003 => REQUESTED_CLASS,
+        0x0000_0100 => FIELD,
+        0x0000_0110 => MESSAGE,
+        0x0000_0800 => DATA_SET,
+        0x0000_1000 => AFFECTED_INSTANCE,
+        0x0000_1001 => REQUESTED_INSTANCE,
+        0x0000_1008 => ACTION_TYPE,
+        _ => OTHERS,
     }
-    if tag == 0x0000_0002 {
-        return AFFECTED_CLASS;
-    }
-    if tag == 0x0000_0003 {
-        return REQUESTED_CLASS;
-    }
-    if tag == 0x0000_0100 {
-        return FIELD;
-    }
-    if tag == 0x0000_0110 {
-        return MESSAGE;
-    }
-    if tag == 0x0000_0800 {
-        return DATA_SET;
-    }
-    if tag == 0x0000_1000 {
-        return AFFECTED_INSTANCE;
-    }
-    if tag == 0x0000_1001 {
-        return REQUESTED_INSTANCE;
-    }
-    if tag == 0x0000_1008 {
-        return ACTION_TYPE;
-    }
-    OTHERS
 }
 
 // Where the value behind a header stands; an empty place where there is none.
@@ -94,25 +69,20 @@ fn value_of(head: Head) -> Part
 }
 
 // An element whose header is judged already.
-fn behind(c: &[u8], at: usize, floor: usize, head: Head) -> Read
+fn behind(c: &[u8], at: usize, floor: usize, head: Head) -> Result<usize, Stop>
     requires { (at ≤ length c.now) × (head ≡ head_at c.now Implicit (length c.now) at floor) }
     ensures { result ≡ element_at c.now Implicit 4 (length c.now) at floor }
 {
     match head {
-        Head::Fault(n) => {
-            let reading = elements::refused(n, at, NESTED);
-            reading.read
-        }
-        Head::Value(part) => Read::Past(part.stop),
-        Head::Nest(_) => {
-            let reading = elements::element(c, Syntax::Implicit, NESTED, c.len(), at, floor);
-            reading.read
-        }
+        Head::Fault(n) => elements::refused(n, at, NESTED).read,
+        Head::Value(part) => Ok(part.stop),
+        Head::Nest(_) => { elements::element(c, Syntax::Implicit, NESTED, c.len(), at, floor).read }
     }
 }
 
-// Where each value of a command stands, by one walk over its elements.
-fn gathered(c: &[u8]) -> Places
+// Where each value of a command stands, by one walk over its elements: of a whole command, which is read to its end and has
+// all elements in group 0000.
+fn gathered(c: &[u8]) -> Option<[Part; 10]>
     ensures { Gathers c.now result }
 {
     let whole = Inside {
@@ -124,33 +94,21 @@ fn gathered(c: &[u8]) -> Places
     let mut p = 0;
     let mut floor = 0;
     loop {
-        let close = headers::closing(c, ITEM_END, whole, p);
-        if let Close::Here(_) = close {
-            return Places { whole: true, parts };
+        if let Some(_) = headers::closing(c, ITEM_END, whole, p) {
+            return Some(parts);
         }
         let head = syntaxes::element_head(c, Syntax::Implicit, whole.stop, p, floor);
-        match behind(c, p, floor, head) {
-            Read::Past(q) => {
-                let t = headers::tag_at(c, p);
-                if 65536 <= t {
-                    return Places {
-                        whole: false,
-                        parts,
-                    };
-                }
-                let k = slot(t);
-                let value = value_of(head);
-                parts[k] = value;
-                floor = t + 1;
-                p = q;
-            }
-            Read::Refused(_) => {
-                return Places {
-                    whole: false,
-                    parts,
-                };
-            }
+        let Ok(q) = behind(c, p, floor, head) else {
+            return None;
+        };
+        let t = headers::tag_at(c, p);
+        if 65536 <= t {
+            return None;
         }
+        let k = slot(t);
+        parts[k] = value_of(head);
+        floor = t + 1;
+        p = q;
     }
 }
 
@@ -195,178 +153,142 @@ fn has_uid(c: &[u8], p: Part) -> bool
     is_padded_uid(&c[from..stop])
 }
 
-fn has_target(c: &[u8], places: [Part; 10]) -> bool
-    requires { Holds c.now places }
-    ensures { result ≡ has_target c.now }
-{
-    if !has_uid(c, places[REQUESTED_CLASS]) {
-        return false;
-    }
-    has_uid(c, places[REQUESTED_INSTANCE])
+// A whole command: its bytes, and where the value of each element that is looked at stands.
+#[derive(Clone, Copy)]
+struct CommandSet<'a> {
+    bytes: &'a [u8],
+    places: [Part; 10],
+    ghost held: { Holds bytes.now places },
 }
 
-// Whether the first element gives the bytes after it.
-fn length_told(c: &[u8], places: [Part; 10]) -> bool
-    requires { Holds c.now places }
-    ensures { result ≡ length_told c.now }
-{
-    let p = places[LENGTH];
-    if p.stop - p.from != 4 {
-        return false;
+impl CommandSet<'_> {
+    fn has_target(&self) -> bool
+        ensures { result ≡ has_target self.now.bytes.now }
+    {
+        has_uid(self.bytes, self.places[REQUESTED_CLASS])
+            && has_uid(self.bytes, self.places[REQUESTED_INSTANCE])
     }
-    octets::u32_at(c, p.from) == c.len() - 12
-}
 
-// Whether the field, the message number and the data set type are there, and the field is a request's.
-fn has_numbers(c: &[u8], places: [Part; 10]) -> bool
-    requires { Holds c.now places }
-    ensures { result ≡ has_numbers c.now }
-{
-    if !has_number(places[FIELD]) {
-        return false;
+    // Whether the first element gives the bytes after it.
+    fn length_told(&self) -> bool
+        ensures { result ≡ length_told self.now.bytes.now }
+    {
+        let p = self.places[LENGTH];
+        p.stop - p.from == 4 && octets::u32_at(self.bytes, p.from) == self.bytes.len() - 12
     }
-    if !has_number(places[MESSAGE]) {
-        return false;
-    }
-    if !has_number(places[DATA_SET]) {
-        return false;
-    }
-    number(c, places[FIELD]) < 0x8000
-}
 
-// Whether a data set comes with the command.
-fn has_data(c: &[u8], places: [Part; 10]) -> bool
-    requires { Holds c.now places }
-    ensures { result ≡ has_data c.now }
-{
-    if number(c, places[DATA_SET]) == 0x0101 {
-        return false;
+    // Whether the field, the message number and the data set type are there, and the field is a request's.
+    fn has_numbers(&self) -> bool
+        ensures { result ≡ has_numbers self.now.bytes.now }
+    {
+        if !has_number(self.places[FIELD])
+            || !has_number(self.places[MESSAGE])
+            || !has_number(self.places[DATA_SET])
+        {
+            return false;
+        }
+        number(self.bytes, self.places[FIELD]) < 0x8000
     }
-    true
-}
 
-fn known(c: &[u8], places: [Part; 10], operation: Operation) -> Command
-    requires { Holds c.now places }
-    ensures { result ≡ known_as c.now operation }
-{
-    Command::Known(Request {
-        message: number(c, places[MESSAGE]),
-        operation,
-    })
-}
+    // Whether a data set comes with the command.
+    fn has_data(&self) -> bool
+        ensures { result ≡ has_data self.now.bytes.now }
+    {
+        number(self.bytes, self.places[DATA_SET]) != 0x0101
+    }
 
-fn echo(c: &[u8], places: [Part; 10]) -> Command
-    requires { Holds c.now places }
-    ensures { result ≡ echo_in c.now }
-{
-    if !has_uid(c, places[AFFECTED_CLASS]) {
-        return Command::Unreadable;
+    fn known(&self, operation: Operation) -> Command
+        ensures { result ≡ known_as self.now.bytes.now operation }
+    {
+        Command::Known(Request {
+            message: number(self.bytes, self.places[MESSAGE]),
+            operation,
+        })
     }
-    known(
-        c,
-        places,
-        Operation::Echo(Verification {
-            class: places[AFFECTED_CLASS],
-        }),
-    )
-}
 
-fn creation(c: &[u8], places: [Part; 10]) -> Command
-    requires { Holds c.now places }
-    ensures { result ≡ creation_in c.now }
-{
-    if !has_uid(c, places[AFFECTED_CLASS]) {
-        return Command::Unreadable;
+    fn echo(&self) -> Command
+        ensures { result ≡ echo_in self.now.bytes.now }
+    {
+        if !has_uid(self.bytes, self.places[AFFECTED_CLASS]) {
+            return Command::Unreadable;
+        }
+        self.known(Operation::Echo(Verification {
+            class: self.places[AFFECTED_CLASS],
+        }))
     }
-    known(
-        c,
-        places,
-        Operation::Create(Creation {
-            class: places[AFFECTED_CLASS],
-            sent: places[AFFECTED_INSTANCE],
-        }),
-    )
-}
 
-fn target(c: &[u8], places: [Part; 10]) -> Target
-    requires { Holds c.now places }
-    ensures { result ≡ target_in c.now }
-{
-    Target {
-        class: places[REQUESTED_CLASS],
-        instance: places[REQUESTED_INSTANCE],
+    fn creation(&self) -> Command
+        ensures { result ≡ creation_in self.now.bytes.now }
+    {
+        if !has_uid(self.bytes, self.places[AFFECTED_CLASS]) {
+            return Command::Unreadable;
+        }
+        self.known(Operation::Create(Creation {
+            class: self.places[AFFECTED_CLASS],
+            sent: self.places[AFFECTED_INSTANCE],
+        }))
     }
-}
 
-fn setting(c: &[u8], places: [Part; 10]) -> Command
-    requires { Holds c.now places }
-    ensures { result ≡ setting_in c.now }
-{
-    if !has_target(c, places) {
-        return Command::Unreadable;
+    fn target(&self) -> Target
+        ensures { result ≡ target_in self.now.bytes.now }
+    {
+        Target {
+            class: self.places[REQUESTED_CLASS],
+            instance: self.places[REQUESTED_INSTANCE],
+        }
     }
-    known(c, places, Operation::Set(target(c, places)))
-}
 
-fn action(c: &[u8], places: [Part; 10]) -> Command
-    requires { Holds c.now places }
-    ensures { result ≡ action_in c.now }
-{
-    if !has_target(c, places) {
-        return Command::Unreadable;
+    fn setting(&self) -> Command
+        ensures { result ≡ setting_in self.now.bytes.now }
+    {
+        if !self.has_target() {
+            return Command::Unreadable;
+        }
+        self.known(Operation::Set(self.target()))
     }
-    if !has_number(places[ACTION_TYPE]) {
-        return Command::Unreadable;
-    }
-    known(
-        c,
-        places,
-        Operation::Act(Action {
-            class: places[REQUESTED_CLASS],
-            instance: places[REQUESTED_INSTANCE],
-            kind: number(c, places[ACTION_TYPE]),
-        }),
-    )
-}
 
-fn deletion(c: &[u8], places: [Part; 10]) -> Command
-    requires { Holds c.now places }
-    ensures { result ≡ deletion_in c.now }
-{
-    if !has_target(c, places) {
-        return Command::Unreadable;
+    fn action(&self) -> Command
+        ensures { result ≡ action_in self.now.bytes.now }
+    {
+        if !self.has_target() || !has_number(self.places[ACTION_TYPE]) {
+            return Command::Unreadable;
+        }
+        self.known(Operation::Act(Action {
+            class: self.places[REQUESTED_CLASS],
+            instance: self.places[REQUESTED_INSTANCE],
+            kind: number(self.bytes, self.places[ACTION_TYPE]),
+        }))
     }
-    known(c, places, Operation::Delete(target(c, places)))
-}
 
-// The request, by its field.
-fn request(c: &[u8], places: [Part; 10]) -> Command
-    requires { Holds c.now places }
-    ensures { result ≡ request_in c.now }
-{
-    let field = number(c, places[FIELD]);
-    if field == 0x0030 {
-        return echo(c, places);
+    fn deletion(&self) -> Command
+        ensures { result ≡ deletion_in self.now.bytes.now }
+    {
+        if !self.has_target() {
+            return Command::Unreadable;
+        }
+        self.known(Operation::Delete(self.target()))
     }
-    if field == 0x0140 {
-        return creation(c, places);
-    }
-    if field == 0x0120 {
-        return setting(c, places);
-    }
-    if field == 0x0130 {
-        return action(c, places);
-    }
-    if field == 0x0150 {
-        return deletion(c, places);
-    }
-    Command::Unknown {
-        message: number(c, places[MESSAGE]),
-        field,
+
+    // The request, by its field.
+    fn request(&self) -> Command
+        ensures { result ≡ request_in self.now.bytes.now }
+    {
+        let field = number(self.bytes, self.places[FIELD]);
+        match field {
+            0x0030 => self.echo(),
+            0x0140 => self.creation(),
+            0x0120 => self.setting(),
+            0x0130 => self.action(),
+            0x0150 => self.deletion(),
+            _ => Command::Unknown {
+                message: number(self.bytes, self.places[MESSAGE]),
+                field,
+            },
+        }
     }
 }
 
-// What a whole command set says, and where it can be read whether a data set comes with it.
+// What a whole command set says, and where it can be read whether a data set comes with it: beside the command, which the book has.
 #[derive(Clone, Copy)]
 pub struct Saying {
     pub command: Command,
@@ -386,26 +308,21 @@ fn unreadable() -> Saying
 pub fn said(c: &[u8]) -> Saying
     ensures { (result.command ≡ understood c.now) × (readable result.command ≡ true → result.with_data ≡ has_data c.now) }
 {
-    let walked = gathered(c);
-    if !walked.whole {
+    let Some(places) = gathered(c) else {
         return unreadable();
-    }
-    let places = walked.parts;
-    if !length_told(c, places) {
-        return unreadable();
-    }
-    if !has_numbers(c, places) {
+    };
+    let set = CommandSet { bytes: c, places };
+    if !set.length_told() || !set.has_numbers() {
         return unreadable();
     }
     Saying {
-        command: request(c, places),
-        with_data: has_data(c, places),
+        command: set.request(),
+        with_data: set.has_data(),
     }
 }
 
 pub fn understood(c: &[u8]) -> Command
     ensures { result ≡ understood c.now }
 {
-    let all = said(c);
-    all.command
+    said(c).command
 }

@@ -4,12 +4,12 @@ use Prim.Native.Nat.{ℕ, ◌+◌, ◌-◌, ◌<◌, ◌≤◌}
 use mathlib.Core.Path.{◌≡◌, refl, sym, ap, subst, ◌∙◌}
 use mathlib.Core.Bool.{Bool, true, false}
 use mathlib.Core.List.{List, [], ◌∷◌, ◌++◌}
-use mathlib.Core.Option.{some}
 use native.Mathlib.Omega.{arith}
 use lib.Dec.{eqb}
 use lib.ListN.{length, get_or, replicate}
 use lib.Seq.{take-append_seam}
 use borrow.Author.Tests.{eq-eqb, ne_eqb, eqb-true, eqb-false, ltb-false}
+use Rattle.std.specs.Prelude.{Ok}
 use Rattle.choice.specs.Pick.{pick, not}
 use Rattle.choice.specs.Rules.{Rule, ◌⇒◌, first_broken}
 use Rattle.choice.proofs.Picks.{first_kept, not_true}
@@ -23,8 +23,8 @@ use Rattle.rules.specs.declared.Numbers.{Numbers}
 use Rattle.rules.specs.declared.Shelf.{Shelf}
 use Rattle.rules.specs.declared.Session.{Session}
 use Rattle.rules.specs.declared.Core.{Core}
-use Rattle.rules.specs.declared.Verdict.{Verdict}
-use Rattle.rules.specs.declared.Request.{Request}
+use Rattle.rules.specs.declared.Failure.{Failure}
+use Rattle.rules.specs.Failures.{status_of}
 use Rattle.rules.specs.Bounds.{most_films, most_boxes, none_left}
 use Rattle.rules.specs.Lists.{every}
 use Rattle.rules.specs.Values.{blank, kind_in, counts_in}
@@ -34,7 +34,7 @@ use Rattle.rules.specs.Commands.{size, bytes_of, uid_at}
 use Rattle.rules.specs.Attributes.{Listing, Standing, fine, look, value_of, attribute_rules, session_standings, reference, session_in, optional_film, film_create_standings, film_with, layout_from, layout_in}
 use Rattle.rules.specs.Effects.{own_serials, too_few_serials, name_from, session_created, new_film, film_serials, film_created}
 use Rattle.rules.specs.declared.Class.TheVariants.{Sessions, Films}
-use Rattle.rules.specs.Checks.{create_rules, new_session_rules, new_film_rules, quietly, sent_uid, create_plan, decided_by}
+use Rattle.rules.specs.Checks.{create_rules, new_session_rules, new_film_rules, quietly, sent_uid, create_plan}
 use Rattle.rules.specs.Sound.{core_sound}
 use Rattle.promises.proofs.ListLaws.{each_parts}
 use Rattle.promises.proofs.Facts.{core_facts, numbers_facts, between_true}
@@ -50,7 +50,8 @@ use Rattle.changes.specs.declared.Effect.TheVariants.{SessionCreated}
 use Rattle.changes.specs.declared.Change.{Change}
 use Rattle.changes.specs.declared.Decision.{Decision}
 use Rattle.changes.specs.Changes.{affected, changed, change_with_session, verdict_of, EffectFits, Fits}
-use Rattle.verdicts.proofs.Plans.{kept_decides}
+use Rattle.verdicts.specs.Decided.{Follows}
+use Rattle.verdicts.proofs.Plans.{status_some, own_stands}
 use Rattle.creating.specs.Creating.{session_made, with_new_film}
 
 -- What stands in the records' bytes.
@@ -76,12 +77,12 @@ session_rows k sent = (every is_live (sessions_of k) ⇒ 0x0213) ∷ (too_few_se
 abbrev pub film_rows : Core → List ℕ → Listing → List Rule
 film_rows k sent l = (eqb (length (films_of k.shelf)) most_films ⇒ 0x0213) ∷ (too_few_serials k.numbers (film_serials sent l) ⇒ 0x0213) ∷ []
 
-module _ (standings : List Standing) (others : List Rule) (n : ℕ) (e : n ≡ first_broken (attribute_rules standings)) where
-  pub attributes_broken : (n ≡ 0 → ⊥) → n ≡ first_broken (attribute_rules standings ++ others)
-  attributes_broken h = sym (broken_append (attribute_rules standings) others refl ∙ rw (sym e, ne_eqb n 0 h))
+module _ (standings : List Standing) (others : List Rule) where
+  pub attributes_broken : (failure : Failure) → status_of failure ≡ first_broken (attribute_rules standings) → status_of failure ≡ first_broken (attribute_rules standings ++ others)
+  attributes_broken failure e = sym (broken_append (attribute_rules standings) others refl ∙ rw (sym e, status_some failure))
 
-  pub attributes_kept : n ≡ 0 → {m : ℕ} → m ≡ first_broken others → m ≡ first_broken (attribute_rules standings ++ others)
-  attributes_kept h f = f ∙ sym (broken_append (attribute_rules standings) others refl ∙ rw (sym e ∙ h))
+  pub attributes_kept : 0 ≡ first_broken (attribute_rules standings) → {m : ℕ} → m ≡ first_broken others → m ≡ first_broken (attribute_rules standings ++ others)
+  attributes_kept e f = f ∙ sym (broken_append (attribute_rules standings) others refl ∙ rw (sym e))
 
 -- a UID that check 6 passed is short
 pub passed_short : (k : Core) (c : List ℕ) (sent : Part) → first_broken (create_rules k c sent) ≡ 0 → length (sent_uid c sent) ≤ 64
@@ -201,10 +202,10 @@ new_few k sent l = layout_few l
 
 -- What decides the plans.
 
-module _ (k : Core) (sent : List ℕ) (l : Listing) (c : List ℕ) (r : Request) where
-  pub session_decides : (v : Verdict) (n : ℕ) → n ≡ first_broken (new_session_rules k sent l) → n ≡ 0 → v ≡ quietly (session_created k sent l) (name_from k.numbers sent) → v ≡ decided_by k c r (create_plan k Sessions sent l)
+module _ (k : Core) (sent : List ℕ) (l : Listing) where
+  pub session_stands : (d : Decision) → 0 ≡ first_broken (new_session_rules k sent l) → verdict_of k d ≡ quietly (session_created k sent l) (name_from k.numbers sent) → Fits k d.change → Follows k (create_plan k Sessions sent l) (Ok d)
   unfolding create_plan
-  session_decides v n e z f = kept_decides k c r (new_session_rules k sent l) (record { rules = []; verdict = (create_plan k Sessions sent l).verdict }) refl n e v z f
+  session_stands d e f fits = own_stands k (create_plan k Sessions sent l) refl d e (f, fits)
 
   film_verdict : verdict_of k (with_new_film (film_serials sent l) (new_film k sent l)) ≡ (create_plan k Films sent l).verdict
   unfolding create_plan new_film film_with affected film_created
@@ -214,12 +215,11 @@ module _ (k : Core) (sent : List ℕ) (l : Listing) (c : List ℕ) (r : Request)
     decision_made : d ≡ with_new_film (film_serials sent l) (new_film k sent l)
     decision_made = e ∙ rw (s, f)
 
-    pub film_decides : (n : ℕ) → n ≡ first_broken (new_film_rules k sent l) → n ≡ 0 → verdict_of k d ≡ decided_by k c r (create_plan k Films sent l)
-    unfolding create_plan
-    film_decides n broken z =
-        kept_decides k c r (new_film_rules k sent l) (record { rules = []; verdict = (create_plan k Films sent l).verdict }) refl n broken (verdict_of k d) z
-        (ap (λ (x : Decision). verdict_of k x) decision_made ∙ film_verdict)
-
-    pub film_fits : k.shelf.count < most_films → k.numbers.serial + film_serials sent l ≤ none_left → Fits k d.change
+    film_fits : k.shelf.count < most_films → k.numbers.serial + film_serials sent l ≤ none_left → Fits k d.change
     unfolding EffectFits
     film_fits room left = subst (λ (x : Decision). Fits k x.change) (sym decision_made) (room, left)
+
+    pub film_stands : 0 ≡ first_broken (new_film_rules k sent l) → k.shelf.count < most_films → k.numbers.serial + film_serials sent l ≤ none_left → Follows k (create_plan k Films sent l) (Ok d)
+    unfolding create_plan
+    film_stands kept room left =
+        own_stands k (create_plan k Films sent l) refl d kept (ap (λ (x : Decision). verdict_of k x) decision_made ∙ film_verdict, film_fits room left)

@@ -1,35 +1,34 @@
 // Creating: N-CREATE decided: checks 6, 8 and 9, and what it does.
 #![tactic(auto)]
 
-ghost use Rattle.std.specs.Prelude.{◌≡◌, ◌+◌, ◌<◌, ◌≤◌, ltb, length};
-ghost use Rattle.choice.specs.Rules.{first_broken};
+ghost use Rattle.std.specs.Prelude.{◌≡◌, ◌+◌, ◌<◌, ◌≤◌, ltb, length, Some};
+ghost use Rattle.choice.specs.Rules.{first_broken, number_by};
 ghost use Rattle.rules.specs.declared.Operation.TheVariants.{Create};
-ghost use Rattle.rules.specs.declared.Contents.TheVariants.{NewBoxes};
 ghost use Rattle.rules.specs.Bounds.{most_boxes, none_left};
 ghost use Rattle.rules.specs.Records.{box_count, films_of, shelved, syntax_in};
-ghost use Rattle.rules.specs.Layout.{records_size};
+ghost use Rattle.rules.specs.Failures.{status_of};
 ghost use Rattle.rules.specs.Attributes.{listing_of, layout_in};
-ghost use Rattle.rules.specs.Effects.{own_serials, renamed, new_film};
+ghost use Rattle.rules.specs.Effects.{own_serials, new_film};
 ghost use Rattle.rules.specs.declared.Class.TheVariants.{Sessions, Films};
 ghost use Rattle.rules.specs.Checks.{new_session_rules, new_film_rules, create_plan, plan_of, decided_by};
 ghost use Rattle.records.specs.Places.{core_in};
 ghost use Rattle.attributes.specs.Founds.{SessionFound, FilmFound};
 ghost use Rattle.verdicts.specs.Ready.{ReadyIn, UidsIn};
-ghost use Rattle.verdicts.specs.Decided.{Decides};
+ghost use Rattle.verdicts.specs.Decided.{Decides, Follows};
 ghost use Rattle.creating.specs.Creating.{name_by, session_made, with_new_film};
 
 use changes::{Decision, Effect};
 use elements::Found;
 use headers::Syntax;
-use records::{AT_SERIAL, AT_SESSIONS, AT_SHELF};
+use records::{AT_SERIAL, AT_SESSIONS, AT_SHELF, Records};
 use rules::{
-    Class, Contents, Creation, Film, Layout, Name, Note, Operation, Request, Serial, Session,
+    Class, Creation, Failure, Film, Layout, Name, NewBoxes, Note, Operation, Request, Serial,
+    Session,
 };
 
 // Serials.
 
-fn next_serial(b: &[u8]) -> u64
-    requires { records_size ≤ length b.now }
+fn next_serial(b: &Records) -> u64
     ensures { result ≡ (core_in b.now).numbers.serial }
 {
     octets::number_at(b, AT_SERIAL, 5)
@@ -39,20 +38,18 @@ fn next_serial(b: &[u8]) -> u64
 fn own_serials(sent: &[u8]) -> u64
     ensures { (result ≡ own_serials sent.now) × (result ≤ 1) }
 {
-    if sent.len() == 0 {
-        return 1;
-    }
-    0
+    if sent.is_empty() { 1 } else { 0 }
 }
 
 fn name_by(serial: u64, sent: &[u8]) -> Name
     requires { (length sent.now ≤ 64) × (length sent.now ≡ 0 → serial < none_left) }
     ensures { result ≡ name_by serial sent.now }
 {
-    if sent.len() == 0 {
-        return shelves::made_name(serial as u32);
+    if sent.is_empty() {
+        shelves::made_name(serial as u32)
+    } else {
+        shelves::sent_name(sent)
     }
-    shelves::sent_name(sent)
 }
 
 fn too_few_serials(serial: u64, needed: u64) -> bool
@@ -65,70 +62,47 @@ fn too_few_serials(serial: u64, needed: u64) -> bool
 // Sessions.
 
 // Checks 8 and 9 of a session.
-fn new_session_broken(b: &[u8], d: &[u8], syntax: Syntax, found: [Found; 9], sent: &[u8]) -> u16
-    requires { (records_size ≤ length b.now) × ((core_in b.now).numbers.serial ≤ none_left) × SessionFound (listing_of d.now syntax) found }
-    ensures { result ≡ first_broken (new_session_rules (core_in b.now) sent.now (listing_of d.now syntax)) }
+fn new_session_broken(
+    b: &Records,
+    d: &[u8],
+    syntax: Syntax,
+    found: [Found; 5],
+    sent: &[u8],
+) -> Result<(), Failure>
+    requires { ((core_in b.now).numbers.serial ≤ none_left) × SessionFound (listing_of d.now syntax) found }
+    ensures { number_by status_of result ≡ first_broken (new_session_rules (core_in b.now) sent.now (listing_of d.now syntax)) }
 {
-    let broken = attributes::session_broken(d, syntax, found);
-    if broken != 0 {
-        return broken;
-    }
+    attributes::session_broken(d, syntax, found)?;
     if b[AT_SESSIONS] != 0 {
-        return 0x0213;
+        return Err(Failure::NoRoom);
     }
     if too_few_serials(next_serial(b), own_serials(sent)) {
-        return 0x0213;
+        return Err(Failure::NoRoom);
     }
-    0
-}
-
-fn renamed(name: Name, s: Session) -> Session
-    ensures { result ≡ renamed name s }
-{
-    let label = s.label;
-    Session {
-        live: s.live,
-        name,
-        copies: s.copies,
-        priority: s.priority,
-        medium: s.medium,
-        destination: s.destination,
-        used: s.used,
-        label,
-    }
+    Ok(())
 }
 
 // The new session, where no rule is broken.
-fn session_made(b: &[u8], d: &[u8], syntax: Syntax, found: [Found; 9], sent: &[u8]) -> Session
-    requires { (records_size ≤ length b.now) × (length sent.now ≤ 64) × (first_broken (new_session_rules (core_in b.now) sent.now (listing_of d.now syntax)) ≡ 0) × SessionFound (listing_of d.now syntax) found }
+fn session_made(b: &Records, d: &[u8], syntax: Syntax, found: [Found; 5], sent: &[u8]) -> Session
+    requires { (length sent.now ≤ 64) × (first_broken (new_session_rules (core_in b.now) sent.now (listing_of d.now syntax)) ≡ 0) × SessionFound (listing_of d.now syntax) found }
     ensures { result ≡ session_made (core_in b.now).numbers sent.now (listing_of d.now syntax) }
 {
     let name = name_by(next_serial(b), sent);
     let given = attributes::session_with(d, syntax, found, shelves::new_session());
-    renamed(name, given)
+    Session { name, ..given }
 }
 
-fn session_decided(
-    b: &[u8],
-    c: &[u8],
-    d: &[u8],
-    syntax: Syntax,
-    sent: &[u8],
-    request: Request,
-) -> Decision
-    requires { ReadyIn b.now × UidsIn c.now request.operation × (length sent.now ≤ 64) }
-    ensures { Decides (core_in b.now) result (decided_by (core_in b.now) c.now request (create_plan (core_in b.now) Sessions sent.now (listing_of d.now syntax))) }
+// As film_decided in its course alone: what is found, tested and made is another at each step.
+fn session_decided(b: &Records, d: &[u8], syntax: Syntax, sent: &[u8]) -> Result<Decision, Failure>
+    requires { ReadyIn b.now × (length sent.now ≤ 64) }
+    ensures { Follows (core_in b.now) (create_plan (core_in b.now) Sessions sent.now (listing_of d.now syntax)) result }
 {
     let found = attributes::session_found(d, syntax);
-    let broken = new_session_broken(b, d, syntax, found, sent);
-    if broken != 0 {
-        return verdicts::failed(c, request, Note::NoNote, broken);
-    }
+    new_session_broken(b, d, syntax, found, sent)?;
     let session = session_made(b, d, syntax, found, sent);
     let effect = Effect::SessionCreated(own_serials(sent));
     let change = changes::change_with_session(effect, session);
-    let name = session.name;
-    verdicts::with_change(change, name)
+    Ok(verdicts::with_change(change, session.name))
 }
 
 // Films.
@@ -142,39 +116,36 @@ fn film_serials(layout: Layout, sent: &[u8]) -> u64
 
 // Checks 8 and 9 of a film.
 fn new_film_broken(
-    b: &[u8],
+    b: &Records,
     d: &[u8],
     syntax: Syntax,
-    found: [Found; 9],
+    found: [Found; 4],
     layout: Layout,
     sent: &[u8],
-) -> u16
-    requires { (records_size ≤ length b.now) × ((core_in b.now).numbers.serial ≤ none_left) × (shelved (films_of (core_in b.now).shelf) ≡ (core_in b.now).shelf) × FilmFound (listing_of d.now syntax) found × (layout ≡ layout_in (listing_of d.now syntax)) }
-    ensures { result ≡ first_broken (new_film_rules (core_in b.now) sent.now (listing_of d.now syntax)) }
+) -> Result<(), Failure>
+    requires { ((core_in b.now).numbers.serial ≤ none_left) × (shelved (films_of (core_in b.now).shelf) ≡ (core_in b.now).shelf) × FilmFound (listing_of d.now syntax) found × (layout ≡ layout_in (listing_of d.now syntax)) }
+    ensures { number_by status_of result ≡ first_broken (new_film_rules (core_in b.now) sent.now (listing_of d.now syntax)) }
 {
-    let status = attributes::film_create_broken(b, d, syntax, found);
-    if status != 0 {
-        return status;
-    }
+    attributes::film_create_broken(b, d, syntax, found)?;
     if b[AT_SHELF] == 8 {
-        return 0x0213;
+        return Err(Failure::NoRoom);
     }
     if too_few_serials(next_serial(b), film_serials(layout, sent)) {
-        return 0x0213;
+        return Err(Failure::NoRoom);
     }
-    0
+    Ok(())
 }
 
 // Orientation PORTRAIT, Magnification BILINEAR, unless the data set gives others. The session named is at the only place.
 fn new_film(
-    b: &[u8],
+    b: &Records,
     d: &[u8],
     syntax: Syntax,
-    found: [Found; 9],
+    found: [Found; 4],
     layout: Layout,
     sent: &[u8],
 ) -> Film
-    requires { (records_size ≤ length b.now) × (length sent.now ≤ 64) × (first_broken (new_film_rules (core_in b.now) sent.now (listing_of d.now syntax)) ≡ 0) × FilmFound (listing_of d.now syntax) found × (layout ≡ layout_in (listing_of d.now syntax)) }
+    requires { (length sent.now ≤ 64) × (first_broken (new_film_rules (core_in b.now) sent.now (listing_of d.now syntax)) ≡ 0) × FilmFound (listing_of d.now syntax) found × (layout ≡ layout_in (listing_of d.now syntax)) }
     ensures { result ≡ new_film (core_in b.now) sent.now (listing_of d.now syntax) }
 {
     let serial = next_serial(b);
@@ -195,14 +166,14 @@ fn new_film(
     attributes::film_with(d, syntax, found, film)
 }
 
-fn boxes_in(first: Serial, layout: Layout) -> Contents
+fn boxes_in(first: Serial, layout: Layout) -> Option<NewBoxes>
     requires { box_count layout ≤ most_boxes }
-    ensures { result ≡ NewBoxes first.0 (box_count layout) }
+    ensures { result ≡ Some (record { first = first.0; count = box_count layout }) }
 {
-    Contents::NewBoxes {
+    Some(NewBoxes {
         first: first.0,
         count: layouts::box_count(layout) as u8,
-    }
+    })
 }
 
 // One more film, and so many serials used.
@@ -223,45 +194,50 @@ fn with_new_film(serials: u64, film: Film) -> Decision
     }
 }
 
-fn film_decided(
-    b: &[u8],
-    c: &[u8],
-    d: &[u8],
-    syntax: Syntax,
-    sent: &[u8],
-    request: Request,
-) -> Decision
-    requires { ReadyIn b.now × UidsIn c.now request.operation × (length sent.now ≤ 64) }
-    ensures { Decides (core_in b.now) result (decided_by (core_in b.now) c.now request (create_plan (core_in b.now) Films sent.now (listing_of d.now syntax))) }
+fn film_decided(b: &Records, d: &[u8], syntax: Syntax, sent: &[u8]) -> Result<Decision, Failure>
+    requires { ReadyIn b.now × (length sent.now ≤ 64) }
+    ensures { Follows (core_in b.now) (create_plan (core_in b.now) Films sent.now (listing_of d.now syntax)) result }
 {
     let found = attributes::film_found(d, syntax);
     let layout = attributes::layout_in(d, syntax, found);
-    let broken = new_film_broken(b, d, syntax, found, layout, sent);
-    if broken != 0 {
-        return verdicts::failed(c, request, Note::NoNote, broken);
-    }
+    new_film_broken(b, d, syntax, found, layout, sent)?;
     let film = new_film(b, d, syntax, found, layout, sent);
-    with_new_film(film_serials(layout, sent), film)
+    Ok(with_new_film(film_serials(layout, sent), film))
 }
 
 // All classes.
 
 // Checks 8 and 9, and what is done, by the class.
-fn decided(b: &[u8], c: &[u8], d: &[u8], sent: &[u8], request: Request, class: Class) -> Decision
-    requires { ReadyIn b.now × UidsIn c.now request.operation × (length sent.now ≤ 64) }
-    ensures { Decides (core_in b.now) result (decided_by (core_in b.now) c.now request (create_plan (core_in b.now) class sent.now (listing_of d.now (syntax_in (core_in b.now))))) }
+fn decided(b: &Records, d: &[u8], sent: &[u8], class: Class) -> Result<Decision, Failure>
+    requires { ReadyIn b.now × (length sent.now ≤ 64) }
+    ensures { Follows (core_in b.now) (create_plan (core_in b.now) class sent.now (listing_of d.now (syntax_in (core_in b.now)))) result }
 {
     match class {
-        Class::Verification => verdicts::quiet(shelves::no_name()),
-        Class::Sessions => session_decided(b, c, d, records::syntax_in(b), sent, request),
-        Class::Films => film_decided(b, c, d, records::syntax_in(b), sent, request),
-        Class::Boxes => verdicts::quiet(shelves::no_name()),
-        Class::UnknownClass => verdicts::quiet(shelves::no_name()),
+        Class::Verification => Ok(verdicts::quiet(shelves::no_name())),
+        Class::Sessions => session_decided(b, d, records::syntax_in(b), sent),
+        Class::Films => film_decided(b, d, records::syntax_in(b), sent),
+        Class::Boxes => Ok(verdicts::quiet(shelves::no_name())),
+        Class::UnknownClass => Ok(verdicts::quiet(shelves::no_name())),
     }
 }
 
-// N-CREATE with a whole data set: checks 6, 8 and 9, and what is done where none applies.
-pub fn created(b: &[u8], c: &[u8], d: &[u8], message: u16, creation: Creation) -> Decision
+// Checks 6, 8 and 9, and what is done where none applies.
+fn creation_planned(
+    b: &Records,
+    c: &[u8],
+    d: &[u8],
+    creation: Creation,
+) -> Result<Decision, Failure>
+    requires { ReadyIn b.now × UidsIn c.now (Create creation) }
+    ensures { Follows (core_in b.now) (plan_of (core_in b.now) c.now d.now (Create creation)) result }
+{
+    checks::create_broken(b, c, creation.sent)?;
+    let kind = instances::class_of(instances::uid_at(c, creation.class));
+    decided(b, d, instances::uid_at(c, creation.sent), kind)
+}
+
+// N-CREATE with a whole data set.
+pub fn created(b: &Records, c: &[u8], d: &[u8], message: u16, creation: Creation) -> Decision
     requires { ReadyIn b.now × UidsIn c.now (Create creation) }
     ensures { Decides (core_in b.now) result (decided_by (core_in b.now) c.now (record { message = message; operation = Create creation }) (plan_of (core_in b.now) c.now d.now (Create creation))) }
 {
@@ -269,12 +245,5 @@ pub fn created(b: &[u8], c: &[u8], d: &[u8], message: u16, creation: Creation) -
         message,
         operation: Operation::Create(creation),
     };
-    let sent = creation.sent;
-    let broken = checks::create_broken(b, c, sent);
-    if broken != 0 {
-        return verdicts::failed(c, request, Note::NoNote, broken);
-    }
-    let class = creation.class;
-    let kind = instances::class_of(instances::uid_at(c, class));
-    decided(b, c, d, instances::uid_at(c, sent), request, kind)
+    verdicts::decided(c, request, creation_planned(b, c, d, creation))
 }

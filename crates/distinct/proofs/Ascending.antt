@@ -1,35 +1,26 @@
 -- Serials that stand in ascending order do not overlap.
 -- Assumes nothing.
 use Prim.Native.Nat.{ℕ, ◌+◌, ◌<◌, ◌≤◌}
-use mathlib.Core.Path.{◌≡◌, refl, ap}
+use mathlib.Core.Path.{◌≡◌, refl, sym, ap, ◌∙◌}
 use mathlib.Core.Bool.{Bool, true, false}
 use mathlib.Core.List.{List, [], ◌∷◌}
 use native.Mathlib.Omega.{arith}
+use Rattle.std.specs.declared.option.Option.{Option}
+use Rattle.std.specs.declared.option.Option.TheVariants.{Some, None}
+use Rattle.std.specs.Option.{is_some, option_and_then}
 use lib.Dec.{eqb, ltb}
 use lib.ListN.{drop}
-use borrow.Author.Tests.{eqb-true, ltb-true, ltb-false, le-ltb}
-use Rattle.choice.specs.Pick.{pick, not}
-use Rattle.choice.proofs.Picks.{both_fails, both_holds, pick_cases}
+use borrow.Author.Tests.{eqb-true, ltb-false, le-ltb}
+use Rattle.choice.specs.Pick.{not}
+use Rattle.choice.proofs.Picks.{both_fails, both_holds}
 use Rattle.rules.specs.Bounds.{most_films}
 use Rattle.rules.specs.Layout.{film_format}
 use Rattle.rules.specs.Lists.{every, apart}
 use Rattle.rules.specs.Sound.{Serials, overlap, own_serial, serials_of}
 use Rattle.distinct.specs.Films.{film_place, films_in}
 use Rattle.distinct.specs.Apart.{box_serials}
-use Rattle.distinct.specs.Ascending.{never, reach, reaches}
+use Rattle.distinct.specs.Ascending.{reach, film_reach, reaches}
 use Rattle.distinct.proofs.Steps.{next_film, no_film_lem}
-
--- what never stops goes on so
-never_on : (stop : ℕ) (s : Serials) → never ≤ stop → never ≤ reach stop s
-never_on stop s h =
-    pick_cases (λ (n : ℕ). never ≤ n) (eqb (s.from + s.count) 0) stop (pick (ltb s.from stop) never (s.from + s.count))
-    (λ e. h)
-    (λ e. pick_cases (λ (n : ℕ). never ≤ n) (ltb s.from stop) never (s.from + s.count) (λ l. omega arith) (λ l. omega (arith, ltb-false s.from stop l)))
-
-never_ends : (stop : ℕ) (all : List Serials) → never ≤ stop → never ≤ reaches stop all
-unfolding reaches
-never_ends stop [] h = h
-never_ends stop (s ∷ all) h = never_ends (reach stop s) all (never_on stop s h)
 
 -- of none, and of those that begin behind the end
 clear_of_none : (a s : Serials) → s.from + s.count ≡ 0 → overlap a s ≡ false
@@ -38,54 +29,78 @@ clear_of_none a s e = rw (le-ltb a.from (s.from + s.count) (omega arith))
 clear_behind : (a s : Serials) → a.from + a.count ≤ s.from → overlap a s ≡ false
 clear_behind a s h = rw (le-ltb s.from (a.from + a.count) h) (both_fails (ltb a.from (s.from + s.count)))
 
-record Next (a : Serials) (stop : ℕ) (s : Serials) : Type 0 where
+record Next (a s : Serials) (r : ℕ) : Type 0 where
   clear : overlap a s ≡ false
-  later : a.from + a.count ≤ reach stop s
+  later : a.from + a.count ≤ r
 
 -- one that ended before is clear of the next
-next : (a : Serials) (stop : ℕ) (s : Serials) (none before : Bool) → eqb (s.from + s.count) 0 ≡ none → ltb s.from stop ≡ before
-    → a.from + a.count ≤ stop → reach stop s < never → Next a stop s
-next a stop s true before e d h l = record { clear = clear_of_none a s (eqb-true (s.from + s.count) 0 e); later = rw e h }
-next a stop s false true e d h l =
-    let k : never < never = rw (e, d) at l in
-    absurd (omega arith)
-next a stop s false false e d h l =
-    let k = ltb-false s.from stop d in
-    record { clear = clear_behind a s (omega arith); later = rw (e, d) (omega arith) }
-
--- how far it reaches is below never, if at the end it is
-still : (stop : ℕ) (all : List Serials) (t : Bool) → ltb stop never ≡ t → reaches stop all < never → stop < never
-still stop all true e h = ltb-true stop never e
-still stop all false e h = let k = never_ends stop all (ltb-false stop never e) in absurd (omega arith)
-
-clear_of_all : (a : Serials) (stop : ℕ) (all : List Serials) → a.from + a.count ≤ stop → reaches stop all < never → every (λ t. not (overlap a t)) all ≡ true
-unfolding reaches every
-clear_of_all a stop [] h l = refl
-clear_of_all a stop (s ∷ all) h l =
-    let n = next a stop s _ _ refl refl h (still (reach stop s) all _ refl l) in
-    rw n.clear (clear_of_all a (reach stop s) all n.later l)
+next : (a : Serials) (stop : ℕ) (s : Serials) (r : ℕ) (none before : Bool) → eqb (s.from + s.count) 0 ≡ none → ltb s.from stop ≡ before
+    → a.from + a.count ≤ stop → reach stop s ≡ Some r → Next a s r
+next a stop s r true before e d h l =
+    let k : Some stop ≡ Some r = rw e at l in
+    let same : stop ≡ r = cc in
+    record { clear = clear_of_none a s (eqb-true (s.from + s.count) 0 e); later = omega arith }
+next a stop s r false true e d h l =
+    let k : None ≡ Some r = rw (e, d) at l in
+    absurd cc
+next a stop s r false false e d h l =
+    let k : Some (s.from + s.count) ≡ Some r = rw (e, d) at l in
+    let same : s.from + s.count ≡ r = cc in
+    let behind = ltb-false s.from stop d in
+    record { clear = clear_behind a s (omega arith); later = omega arith }
 
 -- what is reached is behind the end
-past : (stop : ℕ) (s : Serials) (none before : Bool) → eqb (s.from + s.count) 0 ≡ none → ltb s.from stop ≡ before → reach stop s < never → s.from + s.count ≤ reach stop s
-past stop s true before e d l = rw e (omega (arith, eqb-true (s.from + s.count) 0 e))
-past stop s false true e d l =
-    let k : never < never = rw (e, d) at l in
-    absurd (omega arith)
-past stop s false false e d l = rw (e, d) (omega arith)
+past : (stop : ℕ) (s : Serials) (r : ℕ) (none before : Bool) → eqb (s.from + s.count) 0 ≡ none → ltb s.from stop ≡ before → reach stop s ≡ Some r → s.from + s.count ≤ r
+past stop s r true before e d l = omega (arith, eqb-true (s.from + s.count) 0 e)
+past stop s r false true e d l =
+    let k : None ≡ Some r = rw (e, d) at l in
+    absurd cc
+past stop s r false false e d l =
+    let k : Some (s.from + s.count) ≡ Some r = rw (e, d) at l in
+    let same : s.from + s.count ≡ r = cc in
+    omega arith
 
-pub ascending_apart : (stop : ℕ) (all : List Serials) → reaches stop all < never → apart overlap all ≡ true
+record Going (reached : Option ℕ) (others : List Serials) (end : ℕ) : Type 0 where
+  stop : ℕ
+  so : reached ≡ Some stop
+  on : reaches stop others ≡ Some end
+
+going : (reached : Option ℕ) (others : List Serials) (end : ℕ) → option_and_then (λ n. reaches n others) reached ≡ Some end → Going reached others end
+going None others end e = absurd cc
+going (Some stop) others end e = record { stop = stop; so = refl; on = e }
+
+clear_of_all : (a : Serials) (stop : ℕ) (all : List Serials) (end : ℕ) → a.from + a.count ≤ stop → reaches stop all ≡ Some end → every (λ t. not (overlap a t)) all ≡ true
+unfolding reaches every
+clear_of_all a stop [] end h l = refl
+clear_of_all a stop (s ∷ all) end h l =
+    let g = going (reach stop s) all end l in
+    let n = next a stop s g.stop _ _ refl refl h g.so in
+    rw n.clear (clear_of_all a g.stop all end n.later g.on)
+
+ascending_apart : (stop : ℕ) (all : List Serials) (end : ℕ) → reaches stop all ≡ Some end → apart overlap all ≡ true
 unfolding reaches apart
-ascending_apart stop [] l = refl
-ascending_apart stop (s ∷ all) l =
-    let k = past stop s _ _ refl refl (still (reach stop s) all _ refl l) in
-    both_holds _ _ (clear_of_all s (reach stop s) all k l) (ascending_apart (reach stop s) all l)
+ascending_apart stop [] end l = refl
+ascending_apart stop (s ∷ all) end l =
+    let g = going (reach stop s) all end l in
+    both_holds _ _ (clear_of_all s g.stop all end (past stop s g.stop _ _ refl refl g.so) g.on) (ascending_apart g.stop all end g.on)
+
+pub in_order_apart : (all : List Serials) (reached : Option ℕ) → reached ≡ reaches 0 all → is_some reached ≡ true → apart overlap all ≡ true
+in_order_apart all None e h = absurd cc
+in_order_apart all (Some end) e h = ascending_apart 0 all end (sym e)
+
+regrouped : (reached : Option ℕ) (f g : ℕ → Option ℕ) → option_and_then (λ n. option_and_then g (f n)) reached ≡ option_and_then g (option_and_then f reached)
+regrouped None f g = refl
+regrouped (Some n) f g = refl
 
 -- a film's own serial, then its boxes
 pub reach_on : (b : List ℕ) (n i p stop : ℕ) → i < n → n ≤ most_films → p ≡ film_place i
-    → (let f = film_format.read b p in reaches stop (serials_of (drop i (films_in b n))) ≡ reaches (reach (reach stop (own_serial f.name)) (box_serials f)) (serials_of (drop (i + 1) (films_in b n))))
+    → reaches stop (serials_of (drop i (films_in b n))) ≡ option_and_then (λ m. reaches m (serials_of (drop (i + 1) (films_in b n)))) (film_reach stop (film_format.read b p))
 unfolding reaches serials_of
-reach_on b n i p stop l h e = ap (λ films. reaches stop (serials_of films)) (next_film b n i p l h e)
+reach_on b n i p stop l h e =
+    let f = film_format.read b p in
+    ap (λ films. reaches stop (serials_of films)) (next_film b n i p l h e)
+    ∙ regrouped (reach stop (own_serial f.name)) (λ m. reach m (box_serials f)) (λ m. reaches m (serials_of (drop (i + 1) (films_in b n))))
 
-pub reach_end : (b : List ℕ) (n i stop : ℕ) → n ≤ i → reaches stop (serials_of (drop i (films_in b n))) ≡ stop
+pub reach_end : (b : List ℕ) (n i stop : ℕ) → n ≤ i → reaches stop (serials_of (drop i (films_in b n))) ≡ Some stop
 unfolding reaches serials_of
 reach_end b n i stop h = ap (λ films. reaches stop (serials_of films)) (no_film_lem b n i h)

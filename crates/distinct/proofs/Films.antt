@@ -11,7 +11,7 @@ use Rattle.rules.specs.declared.Film.{Film}
 use Rattle.rules.specs.Lists.{every, apart}
 use Rattle.rules.specs.Sound.{Serials, overlap, own_serial, serials_of, sent_text, same_text, uids_apart}
 use Rattle.distinct.specs.Apart.{box_serials, free_of_film, serials_free, film_apart, serials_apart, film_text, text_free, texts_apart}
-use Rattle.distinct.proofs.Steps.{Stepwise}
+use Rattle.distinct.proofs.Ranges.{Stepwise}
 
 regroup : (a b c d : Bool) → both (both a b) (both c d) ≡ both (both a (both b c)) d
 regroup true b c d = both_assoc b c d

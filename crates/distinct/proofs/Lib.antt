@@ -1,7 +1,8 @@
--- What is read where it lies, and arrays there; what one turn of each loop does, film by film; serials in ascending order.
+-- What is read where it lies, and arrays there; what `all` told of them, film by film; serials in ascending order.
 pub mod InPlace
 pub mod Arrays
-mod Steps
+pub mod Ranges
+pub mod Steps
 mod Films
 mod Told
 mod Ascending

@@ -9,16 +9,13 @@ ghost use Rattle.rules.specs.Layout.{name_size, film_size, records_size, name_fo
 ghost use Rattle.rules.specs.Sound.{overlap, own_serial, serials_of, sent_text, uids_apart};
 ghost use Rattle.records.specs.Places.{session_in, shelf_in};
 ghost use Rattle.distinct.specs.Films.{film_place, films_in};
-ghost use Rattle.distinct.specs.Apart.{serials, box_serials, free_of_film, serials_free, film_apart, serials_apart, text_free, texts_apart};
-ghost use Rattle.distinct.specs.Ascending.{reach, reaches};
+ghost use Rattle.distinct.specs.Apart.{serials, box_serials, free_of_film, serials_free, film_apart, serials_apart, film_text, text_free, texts_apart};
+ghost use Rattle.distinct.specs.Ascending.{reach, film_reach, reaches};
 
-use records::{AT_FILMS, AT_SESSIONS, AT_SHELF, FILM, FILM_FIRST, FILM_LAYOUT, SERIAL};
+use records::{AT_FILMS, AT_SESSIONS, AT_SHELF, FILM, FILM_FIRST, FILM_LAYOUT, Records, SERIAL};
 use rules::TEXT;
 
 const AT_NAME: usize = AT_SESSIONS + 1;
-
-// Behind all serials.
-const NEVER: u64 = 8589934592;
 
 // Where a film stands.
 pub fn film_place(i: usize) -> usize
@@ -29,12 +26,10 @@ pub fn film_place(i: usize) -> usize
 }
 
 // How many films there are, of those that have a place.
-fn films_held(b: &[u8]) -> usize
-    requires { records_size ≤ length b.now }
+fn films_held(b: &Records) -> usize
     ensures { (result ≤ 8) × (films_in b.now result ≡ films_of (shelf_in b.now)) }
 {
-    let n = b[AT_SHELF] as usize;
-    if 8 < n { 8 } else { n }
+    usize::from(b[AT_SHELF]).min(8)
 }
 
 // The serial that a name was made with; a sent one has 0.
@@ -68,43 +63,41 @@ fn own_count(made: u64) -> u64
     if made == 0 { 0 } else { 1 }
 }
 
-// How far some serials reach that begin behind those before them: NEVER where they don't. Where there are none, as far.
-fn reach_of(stop: u64, first: u64, count: u64) -> u64
+// How far some serials reach, if they begin behind those before them. Where there are none, as far.
+fn reach_of(stop: u64, first: u64, count: u64) -> Option<u64>
     requires { (first < 4294967296) × (count ≤ 1530) }
     ensures { result ≡ reach stop (serials first count) }
 {
     if first + count == 0 {
-        return stop;
+        Some(stop)
+    } else if first < stop {
+        None
+    } else {
+        Some(first + count)
     }
-    if first < stop {
-        return NEVER;
-    }
-    first + count
 }
 
 // The same of a film's own serial and its boxes.
-fn film_reach(b: &[u8], p: usize, stop: u64) -> u64
+fn film_reach(b: &[u8], p: usize, stop: u64) -> Option<u64>
     requires { p + film_size ≤ length b.now }
-    ensures { result ≡ reach (reach stop (own_serial (film_format.read b.now p).name)) (box_serials (film_format.read b.now p)) }
+    ensures { result ≡ film_reach stop (film_format.read b.now p) }
 {
     let own = made_at(b, p);
-    let between = reach_of(stop, own, own_count(own));
+    let between = reach_of(stop, own, own_count(own))?;
     reach_of(between, first_at(b, p), box_count(b, p))
 }
 
 // The same of the session's own serial and all films.
-fn all_reach(b: &[u8], n: usize) -> u64
-    requires { (records_size ≤ length b.now) × (n ≤ 8) }
+fn all_reach(b: &Records, n: usize) -> Option<u64>
+    requires { n ≤ 8 }
     ensures { result ≡ reaches 0 (own_serial (session_in b.now).name ∷ serials_of (films_in b.now n)) }
 {
     let own = made_at(b, AT_NAME);
-    let mut stop = reach_of(0, own, own_count(own));
-    let mut i = 0;
-    while i < n {
-        stop = film_reach(b, film_place(i), stop);
-        i += 1;
+    let mut stop = reach_of(0, own, own_count(own))?;
+    for i in 0..n {
+        stop = film_reach(b, film_place(i), stop)?;
     }
-    stop
+    Some(stop)
 }
 
 // Whether some serials are among others.
@@ -112,13 +105,7 @@ fn overlapping(first: u64, count: u64, other: u64, others: u64) -> bool
     requires { (first < 4294967296) × (count ≤ 1530) × (other < 4294967296) × (others ≤ 1530) }
     ensures { result ≡ overlap (serials first count) (serials other others) }
 {
-    if other + others <= first {
-        return false;
-    }
-    if first + count <= other {
-        return false;
-    }
-    true
+    first < other + others && other < first + count
 }
 
 // Whether the film and its boxes have none of these serials.
@@ -127,33 +114,21 @@ fn free_of_film(b: &[u8], p: usize, first: u64, count: u64) -> bool
     ensures { result ≡ free_of_film (serials first count) (film_format.read b.now p) }
 {
     let own = made_at(b, p);
-    if overlapping(first, count, own, own_count(own)) {
-        return false;
-    }
-    if overlapping(first, count, first_at(b, p), box_count(b, p)) {
-        return false;
-    }
-    true
+    !overlapping(first, count, own, own_count(own))
+        && !overlapping(first, count, first_at(b, p), box_count(b, p))
 }
 
 // The same of the films from a place on.
-fn serials_free(b: &[u8], from: usize, n: usize, first: u64, count: u64) -> bool
-    requires { (records_size ≤ length b.now) × (n ≤ 8) × (first < 4294967296) × (count ≤ 1530) }
+fn serials_free(b: &Records, from: usize, n: usize, first: u64, count: u64) -> bool
+    requires { (n ≤ 8) × (first < 4294967296) × (count ≤ 1530) }
     ensures { result ≡ serials_free (serials first count) (drop from (films_in b.now n)) }
 {
-    let mut i = from;
-    while i < n {
-        if !free_of_film(b, film_place(i), first, count) {
-            return false;
-        }
-        i += 1;
-    }
-    true
+    (from..n).all(|i| free_of_film(b, film_place(i), first, count))
 }
 
 // Whether a film's serials differ from one another and from those of the films from a place on.
-fn film_apart(b: &[u8], p: usize, from: usize, n: usize) -> bool
-    requires { (records_size ≤ length b.now) × (n ≤ 8) × (p + film_size ≤ length b.now) }
+fn film_apart(b: &Records, p: usize, from: usize, n: usize) -> bool
+    requires { (n ≤ 8) × (p + film_size ≤ length b.now) }
     ensures { result ≡ film_apart (film_format.read b.now p) (drop from (films_in b.now n)) }
 {
     let own = made_at(b, p);
@@ -169,33 +144,23 @@ fn film_apart(b: &[u8], p: usize, from: usize, n: usize) -> bool
     serials_free(b, from, n, first, count)
 }
 
-fn films_apart(b: &[u8], n: usize) -> bool
-    requires { (records_size ≤ length b.now) × (n ≤ 8) }
+fn films_apart(b: &Records, n: usize) -> bool
+    requires { n ≤ 8 }
     ensures { result ≡ serials_apart (films_in b.now n) }
 {
-    let mut i = 0;
-    while i < n {
-        if !film_apart(b, film_place(i), i + 1, n) {
-            return false;
-        }
-        i += 1;
-    }
-    true
+    (0..n).all(|i| film_apart(b, film_place(i), i + 1, n))
 }
 
 // Serials are given in ascending order: only where they don't stand in it is each compared with each.
-fn serials_apart(b: &[u8], n: usize) -> bool
-    requires { (records_size ≤ length b.now) × (n ≤ 8) }
+fn serials_apart(b: &Records, n: usize) -> bool
+    requires { n ≤ 8 }
     ensures { result ≡ apart overlap (own_serial (session_in b.now).name ∷ serials_of (films_in b.now n)) }
 {
-    if all_reach(b, n) < NEVER {
+    if all_reach(b, n).is_some() {
         return true;
     }
     let own = made_at(b, AT_NAME);
-    if !serials_free(b, 0, n, own, own_count(own)) {
-        return false;
-    }
-    films_apart(b, n)
+    serials_free(b, 0, n, own, own_count(own)) && films_apart(b, n)
 }
 
 // The text that a name was sent with; a made one has none.
@@ -206,43 +171,36 @@ fn sent_text(b: &[u8], p: usize) -> &[u8]
     let used = p + SERIAL;
     let text = used + 1;
     let stop = text + TEXT;
-    octets::front(&b[text..stop], b[used] as usize)
+    octets::front(&b[text..stop], usize::from(b[used]))
+}
+
+// The text that a film's name was sent with.
+fn film_text(b: &[u8], p: usize) -> &[u8]
+    requires { p + film_size ≤ length b.now }
+    ensures { result.now ≡ film_text (film_format.read b.now p) }
+{
+    sent_text(b, p)
 }
 
 // Whether none of the films from a place on has this text.
-fn text_free(b: &[u8], from: usize, n: usize, text: &[u8]) -> bool
-    requires { (records_size ≤ length b.now) × (n ≤ 8) }
+fn text_free(b: &Records, from: usize, n: usize, text: &[u8]) -> bool
+    requires { n ≤ 8 }
     ensures { result ≡ text_free text.now (drop from (films_in b.now n)) }
 {
     if text.len() == 0 {
         return true;
     }
-    let mut i = from;
-    while i < n {
-        if octets::same_bytes(text, sent_text(b, film_place(i))) {
-            return false;
-        }
-        i += 1;
-    }
-    true
+    (from..n).all(|i| !octets::same_bytes(text, film_text(b, film_place(i))))
 }
 
-fn texts_apart(b: &[u8], n: usize) -> bool
-    requires { (records_size ≤ length b.now) × (n ≤ 8) }
+fn texts_apart(b: &Records, n: usize) -> bool
+    requires { n ≤ 8 }
     ensures { result ≡ texts_apart (films_in b.now n) }
 {
-    let mut i = 0;
-    while i < n {
-        if !text_free(b, i + 1, n, sent_text(b, film_place(i))) {
-            return false;
-        }
-        i += 1;
-    }
-    true
+    (0..n).all(|i| text_free(b, i + 1, n, film_text(b, film_place(i))))
 }
 
-pub fn uids_apart(b: &[u8]) -> bool
-    requires { records_size ≤ length b.now }
+pub fn uids_apart(b: &Records) -> bool
     ensures { result ≡ uids_apart (session_in b.now ∷ []) (films_of (shelf_in b.now)) }
 {
     let n = films_held(b);

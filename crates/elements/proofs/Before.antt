@@ -8,19 +8,16 @@ use native.Mathlib.Omega.{arith}
 use lib.Dec.{ltb}
 use lib.ListN.{length, take}
 use borrow.Author.Tests.{ltb-true, ltb-false}
+use Rattle.std.specs.Prelude.{Option, Some, None, Result, Ok, Err}
 use Rattle.choice.proofs.Picks.{pick_cases}
 use Rattle.headers.specs.declared.Syntax.{Syntax}
 use Rattle.headers.specs.declared.Inside.{Inside}
 use Rattle.headers.specs.declared.Head.{Head}
 use Rattle.headers.specs.declared.Head.TheVariants.{Fault, Value, Nest}
-use Rattle.headers.specs.declared.Close.{Close}
-use Rattle.headers.specs.declared.Close.TheVariants.{Here, Not}
 use Rattle.headers.specs.Header.{head_at, item_head_at, close_at}
 use Rattle.headers.proofs.Within.{Fits, HeadIn, head_in, item_head_in}
 use Rattle.headers.proofs.Before.{Agree, agree_take, tag_same, widened, HeadBefore, head_before, item_head_before, InsideBefore, CloseBefore, close_before}
 use Rattle.elements.specs.declared.Stop.{Stop}
-use Rattle.elements.specs.declared.Read.{Read}
-use Rattle.elements.specs.declared.Read.TheVariants.{Past, Refused}
 use Rattle.elements.specs.Walk.{Next, again, done, follow, onward, walk}
 use Rattle.elements.specs.Reader.{most_nested, item_end, sequence_end, Elem, behind, or_else, Mark, start, list_step, list_from, item_with, item_step, items_from, element_at, list_at, whole, data_set}
 use Rattle.elements.proofs.Within.{ReadIn, NextIn}
@@ -38,19 +35,19 @@ by_place P a b f g = by (ltb a b) refl
 -- What one reading tells of another, of bytes that agree with its own below a place:
 -- what it read below the place the other reads too, and where it ended at the place the other comes so far.
 
-abbrev ReadBefore : ℕ → Read → Read → Type 0
-ReadBefore p (Past q) r = (q < p → r ≡ Past q) × (q ≡ p → ReadsTo p r)
-ReadBefore p (Refused stop) r = stop.place ≡ p → ReadsTo p r
+abbrev ReadBefore : ℕ → Result ℕ Stop → Result ℕ Stop → Type 0
+ReadBefore p (Ok q) r = (q < p → r ≡ Ok q) × (q ≡ p → ReadsTo p r)
+ReadBefore p (Err stop) r = stop.place ≡ p → ReadsTo p r
 
 abbrev StepBefore : {S : Type 0} → (S → ℕ) → ℕ → Next S → Next S → Type 0
 StepBefore place_of p (again y) n = (place_of y < p → n ≡ again y) × (place_of y ≡ p → StepsTo place_of p n)
-StepBefore place_of p (done (Past q)) n = (q < p → n ≡ done (Past q)) × (q ≡ p → StepsTo place_of p n)
-StepBefore place_of p (done (Refused stop)) n = stop.place ≡ p → StepsTo place_of p n
+StepBefore place_of p (done (Ok q)) n = (q < p → n ≡ done (Ok q)) × (q ≡ p → StepsTo place_of p n)
+StepBefore place_of p (done (Err stop)) n = stop.place ≡ p → StepsTo place_of p n
 
 -- both begin at the place or behind it
-read_beyond : (p at : ℕ) (r r' : Read) → p ≤ at → ReadsTo at r → ReadsTo at r' → ReadBefore p r r'
-read_beyond p at (Past q) r' l h g = (λ b. absurd (omega arith), λ e. nearer p at r' l g)
-read_beyond p at (Refused stop) r' l h g = λ e. nearer p at r' l g
+read_beyond : (p at : ℕ) (r r' : Result ℕ Stop) → p ≤ at → ReadsTo at r → ReadsTo at r' → ReadBefore p r r'
+read_beyond p at (Ok q) r' l h g = (λ b. absurd (omega arith), λ e. nearer p at r' l g)
+read_beyond p at (Err stop) r' l h g = λ e. nearer p at r' l g
 
 steps_nearer : {S : Type 0} (place_of : S → ℕ) (p at : ℕ) (n : Next S) → p ≤ at → StepsTo place_of at n → StepsTo place_of p n
 steps_nearer place_of p at (again y) l g = omega arith
@@ -58,17 +55,17 @@ steps_nearer place_of p at (done r) l g = nearer p at r l g
 
 step_beyond : {S : Type 0} (place_of : S → ℕ) (p at : ℕ) (n n' : Next S) → p ≤ at → StepsTo place_of at n → StepsTo place_of at n' → StepBefore place_of p n n'
 step_beyond place_of p at (again y) n' l h g = (λ b. absurd (omega arith), λ e. steps_nearer place_of p at n' l g)
-step_beyond place_of p at (done (Past q)) n' l h g = (λ b. absurd (omega arith), λ e. steps_nearer place_of p at n' l g)
-step_beyond place_of p at (done (Refused stop)) n' l h g = λ e. steps_nearer place_of p at n' l g
+step_beyond place_of p at (done (Ok q)) n' l h g = (λ b. absurd (omega arith), λ e. steps_nearer place_of p at n' l g)
+step_beyond place_of p at (done (Err stop)) n' l h g = λ e. steps_nearer place_of p at n' l g
 
 -- a reading that begins above the place tells nothing
-read_below : (low p : ℕ) (r r' : Read) → ReadsTo low r → (low ≤ p → ReadBefore p r r') → ReadBefore p r r'
-read_below low p (Past q) r' h f = (λ l. (f (omega arith)).0 l, λ e. (f (omega arith)).1 e)
-read_below low p (Refused stop) r' h f = λ e. f (omega arith) e
+read_below : (low p : ℕ) (r r' : Result ℕ Stop) → ReadsTo low r → (low ≤ p → ReadBefore p r r') → ReadBefore p r r'
+read_below low p (Ok q) r' h f = (λ l. (f (omega arith)).0 l, λ e. (f (omega arith)).1 e)
+read_below low p (Err stop) r' h f = λ e. f (omega arith) e
 
 -- Walks.
 
-follow_before : {S : Type 0} (place_of : S → ℕ) (low end p : ℕ) (rest rest' : S → Read) (n n' : Next S) → NextIn place_of low end n
+follow_before : {S : Type 0} (place_of : S → ℕ) (low end p : ℕ) (rest rest' : S → Result ℕ Stop) (n n' : Next S) → NextIn place_of low end n
     → ((y : S) → low < place_of y → place_of y ≤ end → ReadsTo (place_of y) (rest y))
     → ((y : S) → low < place_of y → place_of y ≤ end → ReadBefore p (rest y) (rest' y))
     → (StepsTo place_of p n' → ReadsTo p (follow rest' n'))
@@ -79,8 +76,8 @@ follow_before place_of low end p rest rest' (again y) n' h far same to g =
     (λ l. by_place (ReadBefore p (rest y) (follow rest' n')) (place_of y) p
     (λ b. rw (g.0 b) (same y h.0 h.1))
     (λ b. read_beyond p p (rest y) (follow rest' n') (omega arith) (nearer p (place_of y) (rest y) b from) (to (g.1 (omega arith)))))
-follow_before place_of low end p rest rest' (done (Past q)) n' h far same to g = (λ l. ap (follow rest') (g.0 l), λ e. to (g.1 e))
-follow_before place_of low end p rest rest' (done (Refused stop)) n' h far same to g = λ e. to (g e)
+follow_before place_of low end p rest rest' (done (Ok q)) n' h far same to g = (λ l. ap (follow rest') (g.0 l), λ e. to (g.1 e))
+follow_before place_of low end p rest rest' (done (Err stop)) n' h far same to g = λ e. to (g e)
 
 module _ {S : Type 0} (place_of : S → ℕ) (p end end' : ℕ) (wider : end ≤ end') (step step' : S → Next S)
     (good : (x : S) → place_of x ≤ end → NextIn place_of (place_of x) end (step x))
@@ -99,20 +96,20 @@ module _ {S : Type 0} (place_of : S → ℕ) (p end end' : ℕ) (wider : end ≤
       (follow_to place_of (place_of x) end' p (λ y. walk step' fuel' y) (step' x) (good' x (omega arith)) (λ y b g. walk_to place_of end' step' good' far' fuel' y g (omega arith)))
       (same x h)
 
-onward_to : {S : Type 0} (place_of : S → ℕ) (p : ℕ) (r : Read) (on : ℕ → S) → ((q : ℕ) → place_of (on q) ≡ q) → ReadsTo p r → StepsTo place_of p (onward r on)
-onward_to place_of p (Past q) on e g = omega (arith, e q)
-onward_to place_of p (Refused stop) on e g = g
+onward_to : {S : Type 0} (place_of : S → ℕ) (p : ℕ) (r : Result ℕ Stop) (on : ℕ → S) → ((q : ℕ) → place_of (on q) ≡ q) → ReadsTo p r → StepsTo place_of p (onward r on)
+onward_to place_of p (Ok q) on e g = omega (arith, e q)
+onward_to place_of p (Err stop) on e g = g
 
-step_before : {S : Type 0} (place_of : S → ℕ) (p at end : ℕ) (k k' : Close) (r r' : Read) (on on' : ℕ → S) → ((q : ℕ) → place_of (on q) ≡ q) → ((q : ℕ) → place_of (on' q) ≡ q)
+step_before : {S : Type 0} (place_of : S → ℕ) (p at end : ℕ) (k k' : Option ℕ) (r r' : Result ℕ Stop) (on on' : ℕ → S) → ((q : ℕ) → place_of (on q) ≡ q) → ((q : ℕ) → place_of (on' q) ≡ q)
     → (at + 8 ≤ p → (q : ℕ) → on' q ≡ on q) → at < p → CloseBefore p at end k k' → ReadIn (at + 8) end r → Passes at r → ReadBefore p r r'
     → StepBefore place_of p (or_else k (onward r on)) (or_else k' (onward r' on'))
-step_before place_of p at end (Here q) k' r r' on on' e e' same h c i far g = (λ l. rw (c (omega arith)), λ z. rw (c (omega arith)) (omega arith))
-step_before place_of p at end Not k' (Past q) r' on on' e e' same h c i far g =
+step_before place_of p at end (Some q) k' r r' on on' e e' same h c i far g = (λ l. rw (c (omega arith)), λ z. rw (c (omega arith)) (omega arith))
+step_before place_of p at end None k' (Ok q) r' on on' e e' same h c i far g =
     let z = e q in (
       λ l. rw (c (omega arith) (omega arith), g.0 (omega arith), same (omega arith) q),
       λ y. rw (c (omega arith) (omega arith)) (onward_to place_of p r' on' e' (g.1 (omega arith))),
     )
-step_before place_of p at end Not k' (Refused stop) r' on on' e e' same h c i far g =
+step_before place_of p at end None k' (Err stop) r' on on' e e' same h c i far g =
     λ y. let b = far.2 (omega arith) in rw (c (omega arith) (omega arith)) (onward_to place_of p r' on' e' (g y))
 
 -- Headers.
@@ -120,14 +117,14 @@ step_before place_of p at end Not k' (Refused stop) r' on on' e e' same h c i fa
 widened_before : (p end end' : ℕ) (inside : Inside) → inside.stop ≤ end → end ≤ end' → InsideBefore p inside (widened end' inside)
 widened_before p end end' inside h w = (refl, pick_cases (λ (n : ℕ). inside.stop ≤ n) inside.loose end' inside.stop (λ e. omega arith) (λ e. omega arith), λ e l. rw e)
 
-behind_before : (held held' : Inside → Read) (room p at end end' : ℕ) (d d' : Head) → at < p → HeadIn (at + 8) end d → HeadBefore p end' d d'
+behind_before : (held held' : Inside → Result ℕ Stop) (room p at end end' : ℕ) (d d' : Head) → at < p → HeadIn (at + 8) end d → HeadBefore p end' d d'
     → ((inside : Inside) → Fits (at + 8) inside.from inside.stop end → (inside.from ≤ p → d' ≡ Nest (widened end' inside)) → ReadBefore p (held inside) (behind held' room at d'))
     → ReadBefore p (behind held room at d) (behind held' room at d')
 behind_before held held' room p at end end' (Fault n) d' l h g f = λ e. absurd (omega arith)
 behind_before held held' room p at end end' (Value part) d' l h g f = (λ b. rw (g (omega arith)), λ e. rw (g (omega arith)) (omega arith))
 behind_before held held' room p at end end' (Nest inside) d' l h g f = f inside h g
 
-nest_before : (held held' : Inside → Read) (room p at end' : ℕ) (inside : Inside) (d' : Head) → ReadsTo inside.from (held inside) → ReadBefore p (held inside) (held' (widened end' inside)) → (inside.from ≤ p → d' ≡ Nest (widened end' inside)) → ReadBefore p (held inside) (behind held' room at d')
+nest_before : (held held' : Inside → Result ℕ Stop) (room p at end' : ℕ) (inside : Inside) (d' : Head) → ReadsTo inside.from (held inside) → ReadBefore p (held inside) (held' (widened end' inside)) → (inside.from ≤ p → d' ≡ Nest (widened end' inside)) → ReadBefore p (held inside) (behind held' room at d')
 nest_before held held' room p at end' inside d' h f g = read_below inside.from p (held inside) (behind held' room at d') h (λ l. rw (g l) f)
 
 -- The grammar.
@@ -208,13 +205,13 @@ module _ (p : ℕ) (s t : List ℕ) (agree : Agree p s t) where
       (items_to (element_at s syntax room) (element_in_lem s syntax room) (element_to s syntax room) s room inside inside.from f.1.0)
       (items_before room (element_at s syntax room) (element_at t syntax room) (element_in_lem s syntax room) (element_in_lem t syntax room) (element_to s syntax room) (element_to t syntax room) (element_before syntax room) inside (widened end' inside) (widened_before p end end' inside f.1.1 w) inside.from f.1.0) g))
 
-pub stops_no_earlier : (s t : List ℕ) (syntax : Syntax) {stop : Stop} → data_set s syntax ≡ Refused stop → length s ≤ length t → take stop.place t ≡ take stop.place s → ReadsTo stop.place (data_set t syntax)
+pub stops_no_earlier : (s t : List ℕ) (syntax : Syntax) {stop : Stop} → data_set s syntax ≡ Err stop → length s ≤ length t → take stop.place t ≡ take stop.place s → ReadsTo stop.place (data_set t syntax)
 unfolding data_set list_at
 stops_no_earlier s t syntax {stop} e h same =
     let p = stop.place in
     let agree = agree_take p s t same in
     let within = stop_within s syntax e in
-    subst (λ (r : Read). ReadBefore p r (data_set t syntax)) e
+    subst (λ (r : Result ℕ Stop). ReadBefore p r (data_set t syntax)) e
     (list_before p s t agree most_nested (element_at s syntax most_nested) (element_at t syntax most_nested) (element_in_lem s syntax most_nested) (element_in_lem t syntax most_nested) (element_to s syntax most_nested) (element_to t syntax most_nested) (element_before p s t agree syntax most_nested)
     (whole s) (whole t) (refl, h, λ z l. absurd (omega arith)) (start (whole s)) (omega arith))
     refl

@@ -5,17 +5,15 @@ use mathlib.Core.List.{List}
 use Prim.Native.Nat.{ℕ, zero, suc, ◌+◌, ◌-◌, ◌*◌, ◌/◌, ◌≤◌, ◌<◌}
 use native.Mathlib.Omega.{arith}
 use lib.ListN.{length}
+use Rattle.std.specs.Prelude.{Option, Some, None, Result, Ok, Err}
 use Rattle.headers.specs.declared.Syntax.{Syntax}
 use Rattle.headers.specs.declared.Inside.{Inside}
 use Rattle.headers.specs.declared.Scope.{Scope}
 use Rattle.headers.specs.declared.Head.{Head}
 use Rattle.headers.specs.declared.Head.TheVariants.{Fault, Value, Nest}
-use Rattle.headers.specs.declared.Close.{Close}
-use Rattle.headers.specs.declared.Close.TheVariants.{Here, Not}
 use Rattle.headers.specs.Header.{head_at, item_head_at, close_at}
 use Rattle.headers.proofs.Within.{HeadIn, Delimited, close_behind, head_in, item_head_in}
-use Rattle.elements.specs.declared.Read.{Read}
-use Rattle.elements.specs.declared.Read.TheVariants.{Past, Refused}
+use Rattle.elements.specs.declared.Stop.{Stop}
 use Rattle.elements.specs.Walk.{Next, again, done, follow, onward, walk}
 use Rattle.elements.specs.Reader.{most_nested, item_end, sequence_end, Elem, behind, or_else, Mark, start, list_step, list_from, item_with, item_step, items_from, element_at, element_in, list_at, item_at, whole, data_scope, data_set}
 use Rattle.elements.specs.Passed.{further, tally, passed_behind, unless_closed, Passing, list_passed, item_passed, items_passed, element_passed, item_passed_at, passed_in, headers_passed}
@@ -23,7 +21,7 @@ use Rattle.elements.proofs.Within.{ReadIn, NextIn}
 use Rattle.elements.proofs.Grammar.{place, ElemIn, element_in_lem, item_in, list_in, list_step_in, item_step_in}
 use Rattle.elements.proofs.Beyond.{ReadsTo, StepsTo, nearer}
 
-follow_within : {S : Type 0} (place_of : S → ℕ) (low end at a : ℕ) (rest : S → Read) (count : S → ℕ) (n : Next S) → NextIn place_of low end n
+follow_within : {S : Type 0} (place_of : S → ℕ) (low end at a : ℕ) (rest : S → Result ℕ Stop) (count : S → ℕ) (n : Next S) → NextIn place_of low end n
     → ((y : S) → low < place_of y → place_of y ≤ end → ReadsTo (place_of y + 8 * count y) (rest y))
     → StepsTo place_of (at + 8 * a) n → ReadsTo (at + 8 * (a + further count n)) (follow rest n)
 follow_within place_of low end at a rest count (again y) h f g = nearer (at + 8 * (a + count y)) (place_of y + 8 * count y) (rest y) (omega arith) (f y h.0 h.1)
@@ -38,21 +36,21 @@ tally_within place_of end step passed good far (suc fuel) x h l =
     follow_within place_of (place_of x) end (place_of x) (passed x) (λ y. walk step fuel y) (λ y. tally step passed fuel y) (step x) (good x h)
     (λ y m g. tally_within place_of end step passed good far fuel y g (omega arith)) (far x h)
 
-behind_within : (held : Inside → Read) (passed : Inside → ℕ) (room at end : ℕ) (d : Head) → HeadIn (at + 8) end d
+behind_within : (held : Inside → Result ℕ Stop) (passed : Inside → ℕ) (room at end : ℕ) (d : Head) → HeadIn (at + 8) end d
     → ((inside : Inside) → at + 8 ≤ inside.from → inside.from ≤ inside.stop → ReadsTo (at + 8 * passed inside) (held inside))
     → ReadsTo (at + 8 * passed_behind passed d) (behind held room at d)
 behind_within held passed room at end (Fault n) h f = (omega arith, h.0)
 behind_within held passed room at end (Value part) h f = omega arith
 behind_within held passed room at end (Nest inside) h f = f inside h.0 h.1.0
 
-step_within : {S : Type 0} (place_of : S → ℕ) (at : ℕ) (inside : Inside) (k : Close) (r : Read) (n : ℕ) (on : ℕ → S) → ((q : ℕ) → place_of (on q) ≡ q)
+step_within : {S : Type 0} (place_of : S → ℕ) (at : ℕ) (inside : Inside) (k : Option ℕ) (r : Result ℕ Stop) (n : ℕ) (on : ℕ → S) → ((q : ℕ) → place_of (on q) ≡ q)
     → Delimited at inside.loose k → ReadsTo (at + 8 * n) r → StepsTo place_of (at + 8 * unless_closed inside k n) (or_else k (onward r on))
-step_within place_of at inside (Here q) r n on e g h = g
-step_within place_of at inside Not (Past q) n on e g h = omega (arith, e q)
-step_within place_of at inside Not (Refused stop) n on e g h = h
+step_within place_of at inside (Some q) r n on e g h = g
+step_within place_of at inside None (Ok q) n on e g h = omega (arith, e q)
+step_within place_of at inside None (Err stop) n on e g h = h
 
 -- behind its own header, what a sequence or an item holds
-header_too : (at from n : ℕ) (r : Read) → at + 8 ≤ from → ReadsTo (from + 8 * n) r → ReadsTo (at + 8 * suc n) r
+header_too : (at from n : ℕ) (r : Result ℕ Stop) → at + 8 ≤ from → ReadsTo (from + 8 * n) r → ReadsTo (at + 8 * suc n) r
 header_too at from n r h g = nearer (at + 8 * suc n) (from + 8 * n) r (omega arith) g
 
 -- a reader of elements, and what it passes
@@ -93,12 +91,12 @@ element_within s syntax (suc room) end at floor h =
 
 -- So much lies before the enclosing end, and before the place behind what was read.
 
-ends_within : (low end n : ℕ) (r : Read) → ReadIn low end r → ReadsTo n r → n ≤ end
-ends_within low end n (Past q) h g = omega arith
-ends_within low end n (Refused stop) h g = omega arith
+ends_within : (low end n : ℕ) (r : Result ℕ Stop) → ReadIn low end r → ReadsTo n r → n ≤ end
+ends_within low end n (Ok q) h g = omega arith
+ends_within low end n (Err stop) h g = omega arith
 
 module _ (s : List ℕ) (syntax : Syntax) (room end at : ℕ) (h : at ≤ end) where
-  pub element_passed_past : (floor : ℕ) {q : ℕ} → element_at s syntax room end at floor ≡ Past q → at + 8 * element_passed s syntax room end at floor ≤ q
+  pub element_passed_past : (floor : ℕ) {q : ℕ} → element_at s syntax room end at floor ≡ Ok q → at + 8 * element_passed s syntax room end at floor ≤ q
   unfolding ElemWithin
   element_passed_past floor e = subst (ReadsTo (at + 8 * element_passed s syntax room end at floor)) e (element_within s syntax room end at floor h)
 
@@ -110,7 +108,7 @@ module _ (s : List ℕ) (syntax : Syntax) (room end at : ℕ) (h : at ≤ end) w
   unfolding item_at item_passed_at
   item_reads_to = item_within (element_at s syntax room) (element_in_lem s syntax room) (element_passed s syntax room) (element_within s syntax room) s room end at h
 
-  pub item_passed_past : {q : ℕ} → item_at s syntax room end at ≡ Past q → at + 8 * item_passed_at s syntax room end at ≤ q
+  pub item_passed_past : {q : ℕ} → item_at s syntax room end at ≡ Ok q → at + 8 * item_passed_at s syntax room end at ≤ q
   item_passed_past e = subst (ReadsTo (at + 8 * item_passed_at s syntax room end at)) e item_reads_to
 
   pub item_ceiling : {n : ℕ} → n ≡ item_passed_at s syntax room end at → at + 8 * n ≤ end

@@ -4,16 +4,14 @@ use mathlib.Core.Path.{◌≡◌, refl}
 use mathlib.Core.List.{List}
 use Prim.Native.Nat.{ℕ, zero, suc, ◌+◌, ◌-◌, ◌≤◌}
 use native.Mathlib.Omega.{arith}
+use Rattle.std.specs.Prelude.{Option, Some, None, Result, Ok, Err}
 use Rattle.headers.specs.declared.Syntax.{Syntax}
 use Rattle.headers.specs.declared.Inside.{Inside}
 use Rattle.headers.specs.declared.Head.{Head}
 use Rattle.headers.specs.declared.Head.TheVariants.{Fault, Value, Nest}
-use Rattle.headers.specs.declared.Close.{Close}
-use Rattle.headers.specs.declared.Close.TheVariants.{Here, Not}
 use Rattle.headers.specs.Header.{head_at, item_head_at, close_at}
 use Rattle.headers.proofs.Within.{CloseIn, HeadIn, close_in, head_in, item_head_in}
-use Rattle.elements.specs.declared.Read.{Read}
-use Rattle.elements.specs.declared.Read.TheVariants.{Past, Refused}
+use Rattle.elements.specs.declared.Stop.{Stop}
 use Rattle.elements.specs.Walk.{follow, onward, on_trail, trail}
 use Rattle.elements.specs.Reader.{item_end, sequence_end, Elem, behind, or_else, Mark, start, list_step, list_from, item_with, item_step, items_from, element_at}
 use Rattle.elements.proofs.Within.{ReadIn, NextIn, AllIn}
@@ -22,20 +20,20 @@ use Rattle.elements.proofs.Steps.{walk_in, unroll, trail_unroll, trail_in}
 abbrev pub place : Mark → ℕ
 place m = m.at
 
-widen : (a b c d : ℕ) (r : Read) → a ≤ b → c ≤ d → ReadIn b c r → ReadIn a d r
-widen a b c d (Past q) h k g = (omega arith, omega arith)
-widen a b c d (Refused stop) h k g = (g.0, omega arith, g.2)
+widen : (a b c d : ℕ) (r : Result ℕ Stop) → a ≤ b → c ≤ d → ReadIn b c r → ReadIn a d r
+widen a b c d (Ok q) h k g = (omega arith, omega arith)
+widen a b c d (Err stop) h k g = (g.0, omega arith, g.2)
 
 -- what stands behind a header
-behind_in : (held : Inside → Read) (room at low end : ℕ) (d : Head) → at ≤ end → ((inside : Inside) → low ≤ inside.from → inside.from ≤ inside.stop → ReadIn inside.from inside.stop (held inside)) → HeadIn low end d → ReadIn low end (behind held room at d)
+behind_in : (held : Inside → Result ℕ Stop) (room at low end : ℕ) (d : Head) → at ≤ end → ((inside : Inside) → low ≤ inside.from → inside.from ≤ inside.stop → ReadIn inside.from inside.stop (held inside)) → HeadIn low end d → ReadIn low end (behind held room at d)
 behind_in held room at low end (Fault n) h f g = (g.1, h, omega arith)
 behind_in held room at low end (Value part) h f g = (omega arith, g.1.1)
 behind_in held room at low end (Nest inside) h f g = widen low inside.from inside.stop end (held inside) g.0 g.1.1 (f inside g.0 g.1.0)
 
-step_in : {S : Type 0} (at_of : S → ℕ) (at end : ℕ) (k : Close) (r : Read) (on : ℕ → S) → ((q : ℕ) → at_of (on q) ≡ q) → CloseIn at end k → ReadIn (at + 8) end r → NextIn at_of at end (or_else k (onward r on))
-step_in at_of at end (Here q) r on e g h = g
-step_in at_of at end Not (Past q) on e g h = (omega (arith, e q), omega (arith, e q))
-step_in at_of at end Not (Refused stop) on e g h = h
+step_in : {S : Type 0} (at_of : S → ℕ) (at end : ℕ) (k : Option ℕ) (r : Result ℕ Stop) (on : ℕ → S) → ((q : ℕ) → at_of (on q) ≡ q) → CloseIn at end k → ReadIn (at + 8) end r → NextIn at_of at end (or_else k (onward r on))
+step_in at_of at end (Some q) r on e g h = g
+step_in at_of at end None (Ok q) on e g h = (omega (arith, e q), omega (arith, e q))
+step_in at_of at end None (Err stop) on e g h = h
 
 -- a reader of elements goes past a header at least, and stays within
 unfoldable pub ElemIn : Elem → Type 0

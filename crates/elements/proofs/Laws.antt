@@ -8,6 +8,7 @@ use native.Mathlib.Omega.{arith}
 use lib.Dec.{eqb}
 use lib.ListN.{length}
 use borrow.Author.Tests.{eq-eqb, ne_eqb, ltb-false}
+use Rattle.std.specs.Prelude.{Option, Some, None, Result, Ok, Err}
 use Rattle.choice.proofs.Picks.{pick_cases, first_cases}
 use Rattle.headers.specs.declared.Syntax.{Syntax}
 use Rattle.headers.specs.declared.Part.{Part}
@@ -15,13 +16,9 @@ use Rattle.headers.specs.declared.Inside.{Inside}
 use Rattle.headers.specs.declared.Scope.{Scope}
 use Rattle.headers.specs.declared.Head.{Head}
 use Rattle.headers.specs.declared.Head.TheVariants.{Fault, Value, Nest}
-use Rattle.headers.specs.declared.Close.{Close}
-use Rattle.headers.specs.declared.Close.TheVariants.{Here, Not}
 use Rattle.headers.specs.Header.{tag_at, element_rules, head_at, item_head_at, close_at}
 use Rattle.headers.proofs.Within.{Fits, HeadIn, head_in, item_head_in}
 use Rattle.elements.specs.declared.Stop.{Stop}
-use Rattle.elements.specs.declared.Read.{Read}
-use Rattle.elements.specs.declared.Read.TheVariants.{Past, Refused}
 use Rattle.elements.specs.declared.Found.{Found}
 use Rattle.elements.specs.declared.Found.TheVariants.{Missing}
 use Rattle.elements.specs.declared.Items.TheVariants.{Empty, Several}
@@ -40,7 +37,7 @@ module _ (s : List ℕ) (syntax : Syntax) (end at floor : ℕ) (h : at ≤ end) 
   pub head_nest : {inside : Inside} → head_at s syntax end at floor ≡ Nest inside → Fits (at + 8) inside.from inside.stop end
   head_nest e = subst (HeadIn (at + 8) end) e (head_in s syntax end at floor h)
 
-  pub element_past : (room : ℕ) {q : ℕ} → element_at s syntax room end at floor ≡ Past q → (at + 8 ≤ q) × (q ≤ end)
+  pub element_past : (room : ℕ) {q : ℕ} → element_at s syntax room end at floor ≡ Ok q → (at + 8 ≤ q) × (q ≤ end)
   unfolding ElemIn
   element_past room e = subst (ReadIn (at + 8) end) e (element_in_lem s syntax room end at floor h)
 
@@ -48,7 +45,7 @@ module _ (s : List ℕ) (end at : ℕ) (h : at ≤ end) where
   pub item_head_nest : {inside : Inside} → item_head_at s end at ≡ Nest inside → Fits (at + 8) inside.from inside.stop end
   item_head_nest e = subst (HeadIn (at + 8) end) e (item_head_in s end at h)
 
-  pub item_past : (syntax : Syntax) (room : ℕ) {q : ℕ} → item_at s syntax room end at ≡ Past q → (at + 8 ≤ q) × (q ≤ end)
+  pub item_past : (syntax : Syntax) (room : ℕ) {q : ℕ} → item_at s syntax room end at ≡ Ok q → (at + 8 ≤ q) × (q ≤ end)
   unfolding item_at
   item_past syntax room e = subst (ReadIn (at + 8) end) e (item_in (element_at s syntax room) (element_in_lem s syntax room) s room end at h)
 
@@ -59,7 +56,7 @@ unfolding element_at
 element_fault s syntax zero end at floor e = rw e
 element_fault s syntax (suc room) end at floor e = rw e
 
-pub element_value : (s : List ℕ) (syntax : Syntax) (room end at floor : ℕ) {part : Part} → head_at s syntax end at floor ≡ Value part → element_at s syntax room end at floor ≡ Past part.stop
+pub element_value : (s : List ℕ) (syntax : Syntax) (room end at floor : ℕ) {part : Part} → head_at s syntax end at floor ≡ Value part → element_at s syntax room end at floor ≡ Ok part.stop
 unfolding element_at
 element_value s syntax zero end at floor e = rw e
 element_value s syntax (suc room) end at floor e = rw e
@@ -75,10 +72,10 @@ element_nest s syntax zero end at floor z e = absurd (z refl)
 element_nest s syntax (suc room) end at floor z e = rw (e, sub-one (suc room))
 
 -- an element that is read has no tag below the floor
-abbrev AboveFloor : ℕ → ℕ → Read → Type 0
-AboveFloor floor tag r = (q : ℕ) → r ≡ Past q → floor ≤ tag
+abbrev AboveFloor : ℕ → ℕ → Result ℕ Stop → Type 0
+AboveFloor floor tag r = (q : ℕ) → r ≡ Ok q → floor ≤ tag
 
-behind_above : (s : List ℕ) (syntax : Syntax) (room end at floor : ℕ) (held : Inside → Read) → AboveFloor floor (tag_at s at) (behind held room at (head_at s syntax end at floor))
+behind_above : (s : List ℕ) (syntax : Syntax) (room end at floor : ℕ) (held : Inside → Result ℕ Stop) → AboveFloor floor (tag_at s at) (behind held room at (head_at s syntax end at floor))
 unfolding head_at
 behind_above s syntax room end at floor held =
     first_cases (λ d. AboveFloor floor (tag_at s at) (behind held room at d)) Fault (element_rules s syntax end at floor) _
@@ -97,7 +94,7 @@ module _ (s : List ℕ) (syntax : Syntax) (room end at : ℕ) where
   unfolding item_at item_with
   item_fault e = rw e
 
-  pub item_value : {part : Part} → item_head_at s end at ≡ Value part → item_at s syntax room end at ≡ Past part.stop
+  pub item_value : {part : Part} → item_head_at s end at ≡ Value part → item_at s syntax room end at ≡ Ok part.stop
   unfolding item_at item_with
   item_value e = rw e
 
@@ -108,10 +105,10 @@ module _ (s : List ℕ) (syntax : Syntax) (room end at : ℕ) where
 -- No tag below the floor is found any more.
 
 module _ (s : List ℕ) (scope : Scope) (tag : ℕ) where
-  on_trail_below : (m : Mark) (rest : Mark → List Mark) (k : Close) (r : Read) → tag < m.floor → ((y : Mark) → tag < y.floor → among s scope.syntax scope.inside.stop tag (rest y) ≡ Missing) → AboveFloor m.floor (tag_at s m.at) r → among s scope.syntax scope.inside.stop tag (on_trail m rest (or_else k (onward r (λ q. mark q (tag_at s m.at + 1))))) ≡ Missing
-  on_trail_below m rest (Here q) r h f g = refl
-  on_trail_below m rest Not (Past q) h f g = let t = g q refl in rw (ne_eqb (tag_at s m.at) tag (λ e. omega arith)) (f (mark q (tag_at s m.at + 1)) (omega arith))
-  on_trail_below m rest Not (Refused stop) h f g = refl
+  on_trail_below : (m : Mark) (rest : Mark → List Mark) (k : Option ℕ) (r : Result ℕ Stop) → tag < m.floor → ((y : Mark) → tag < y.floor → among s scope.syntax scope.inside.stop tag (rest y) ≡ Missing) → AboveFloor m.floor (tag_at s m.at) r → among s scope.syntax scope.inside.stop tag (on_trail m rest (or_else k (onward r (λ q. mark q (tag_at s m.at + 1))))) ≡ Missing
+  on_trail_below m rest (Some q) r h f g = refl
+  on_trail_below m rest None (Ok q) h f g = let t = g q refl in rw (ne_eqb (tag_at s m.at) tag (λ e. omega arith)) (f (mark q (tag_at s m.at + 1)) (omega arith))
+  on_trail_below m rest None (Err stop) h f g = refl
 
   trail_below : (fuel : ℕ) (m : Mark) → tag < m.floor → among s scope.syntax scope.inside.stop tag (trail (list_step (element_in s scope) s scope.inside) fuel m) ≡ Missing
   unfolding trail list_step
@@ -131,13 +128,13 @@ module _ (s : List ℕ) (syntax : Syntax) (room : ℕ) (inside : Inside) (at : �
   unfolding item_step item_at
   items_on = items_unroll (element_at s syntax room) (element_in_lem s syntax room) s room inside at h
 
-  pub items_done : {q : ℕ} → close_at s sequence_end inside at ≡ Here q → items_from (element_at s syntax room) s room inside at ≡ Past q
+  pub items_done : {q : ℕ} → close_at s sequence_end inside at ≡ Some q → items_from (element_at s syntax room) s room inside at ≡ Ok q
   items_done k = items_on ∙ rw k
 
-  pub items_refused : {stop : Stop} → close_at s sequence_end inside at ≡ Not → item_at s syntax room inside.stop at ≡ Refused stop → items_from (element_at s syntax room) s room inside at ≡ Refused stop
+  pub items_refused : {stop : Stop} → close_at s sequence_end inside at ≡ None → item_at s syntax room inside.stop at ≡ Err stop → items_from (element_at s syntax room) s room inside at ≡ Err stop
   items_refused k e = items_on ∙ rw (k, e)
 
-  pub items_more : {q : ℕ} → close_at s sequence_end inside at ≡ Not → item_at s syntax room inside.stop at ≡ Past q → items_from (element_at s syntax room) s room inside at ≡ items_from (element_at s syntax room) s room inside q
+  pub items_more : {q : ℕ} → close_at s sequence_end inside at ≡ None → item_at s syntax room inside.stop at ≡ Ok q → items_from (element_at s syntax room) s room inside at ≡ items_from (element_at s syntax room) s room inside q
   items_more k e = items_on ∙ rw (k, e)
 
   module _ (floor : ℕ) where
@@ -145,13 +142,13 @@ module _ (s : List ℕ) (syntax : Syntax) (room : ℕ) (inside : Inside) (at : �
     unfolding list_step
     list_on = list_unroll (element_at s syntax room) (element_in_lem s syntax room) s room inside (mark at floor) h
 
-    pub list_done : {q : ℕ} → close_at s item_end inside at ≡ Here q → list_from (element_at s syntax room) s inside (mark at floor) ≡ Past q
+    pub list_done : {q : ℕ} → close_at s item_end inside at ≡ Some q → list_from (element_at s syntax room) s inside (mark at floor) ≡ Ok q
     list_done k = list_on ∙ rw k
 
-    pub list_refused : {stop : Stop} → close_at s item_end inside at ≡ Not → element_at s syntax room inside.stop at floor ≡ Refused stop → list_from (element_at s syntax room) s inside (mark at floor) ≡ Refused stop
+    pub list_refused : {stop : Stop} → close_at s item_end inside at ≡ None → element_at s syntax room inside.stop at floor ≡ Err stop → list_from (element_at s syntax room) s inside (mark at floor) ≡ Err stop
     list_refused k e = list_on ∙ rw (k, e)
 
-    pub list_more : {q : ℕ} → close_at s item_end inside at ≡ Not → element_at s syntax room inside.stop at floor ≡ Past q → list_from (element_at s syntax room) s inside (mark at floor) ≡ list_from (element_at s syntax room) s inside (mark q (tag_at s at + 1))
+    pub list_more : {q : ℕ} → close_at s item_end inside at ≡ None → element_at s syntax room inside.stop at floor ≡ Ok q → list_from (element_at s syntax room) s inside (mark at floor) ≡ list_from (element_at s syntax room) s inside (mark q (tag_at s at + 1))
     list_more k e = list_on ∙ rw (k, e)
 
 -- One step of each trail.
@@ -161,13 +158,13 @@ module _ (s : List ℕ) (scope : Scope) (at : ℕ) (h : at ≤ scope.inside.stop
   unfolding item_step item_at items_of
   items_of_on = items_of_unroll (element_in s scope) (element_in_lem s scope.syntax scope.room) s scope.room scope.inside at h
 
-  pub items_of_done : {q : ℕ} → close_at s sequence_end scope.inside at ≡ Here q → items_of s scope at ≡ []
+  pub items_of_done : {q : ℕ} → close_at s sequence_end scope.inside at ≡ Some q → items_of s scope at ≡ []
   items_of_done k = items_of_on ∙ rw k
 
-  pub items_of_refused : {stop : Stop} → close_at s sequence_end scope.inside at ≡ Not → item_at s scope.syntax scope.room scope.inside.stop at ≡ Refused stop → items_of s scope at ≡ []
+  pub items_of_refused : {stop : Stop} → close_at s sequence_end scope.inside at ≡ None → item_at s scope.syntax scope.room scope.inside.stop at ≡ Err stop → items_of s scope at ≡ []
   items_of_refused k e = items_of_on ∙ rw (k, e)
 
-  pub items_of_more : {q : ℕ} → close_at s sequence_end scope.inside at ≡ Not → item_at s scope.syntax scope.room scope.inside.stop at ≡ Past q → items_of s scope at ≡ at ∷ items_of s scope q
+  pub items_of_more : {q : ℕ} → close_at s sequence_end scope.inside at ≡ None → item_at s scope.syntax scope.room scope.inside.stop at ≡ Ok q → items_of s scope at ≡ at ∷ items_of s scope q
   items_of_more k e = items_of_on ∙ rw (k, e)
 
   module _ (floor : ℕ) where
@@ -175,37 +172,37 @@ module _ (s : List ℕ) (scope : Scope) (at : ℕ) (h : at ≤ scope.inside.stop
     unfolding list_step elements_from
     elements_on = elements_unroll (element_in s scope) (element_in_lem s scope.syntax scope.room) s scope.room scope.inside (mark at floor) h
 
-    pub elements_done : {q : ℕ} → close_at s item_end scope.inside at ≡ Here q → elements_from s scope (mark at floor) ≡ []
+    pub elements_done : {q : ℕ} → close_at s item_end scope.inside at ≡ Some q → elements_from s scope (mark at floor) ≡ []
     elements_done k = elements_on ∙ rw k
 
-    pub elements_more : {q : ℕ} → close_at s item_end scope.inside at ≡ Not → element_in s scope scope.inside.stop at floor ≡ Past q → elements_from s scope (mark at floor) ≡ mark at floor ∷ elements_from s scope (mark q (tag_at s at + 1))
+    pub elements_more : {q : ℕ} → close_at s item_end scope.inside at ≡ None → element_in s scope scope.inside.stop at floor ≡ Ok q → elements_from s scope (mark at floor) ≡ mark at floor ∷ elements_from s scope (mark q (tag_at s at + 1))
     elements_more k e = elements_on ∙ rw (k, e)
 
     module _ (tag : ℕ) where
-      pub find_done : {q : ℕ} → close_at s item_end scope.inside at ≡ Here q → among s scope.syntax scope.inside.stop tag (elements_from s scope (mark at floor)) ≡ Missing
+      pub find_done : {q : ℕ} → close_at s item_end scope.inside at ≡ Some q → among s scope.syntax scope.inside.stop tag (elements_from s scope (mark at floor)) ≡ Missing
       find_done k = rw (elements_on, k)
 
-      pub find_refused : {stop : Stop} → close_at s item_end scope.inside at ≡ Not → element_in s scope scope.inside.stop at floor ≡ Refused stop → among s scope.syntax scope.inside.stop tag (elements_from s scope (mark at floor)) ≡ Missing
+      pub find_refused : {stop : Stop} → close_at s item_end scope.inside at ≡ None → element_in s scope scope.inside.stop at floor ≡ Err stop → among s scope.syntax scope.inside.stop tag (elements_from s scope (mark at floor)) ≡ Missing
       find_refused k e = rw (elements_on, k, e)
 
-      pub find_here : {q : ℕ} → close_at s item_end scope.inside at ≡ Not → element_in s scope scope.inside.stop at floor ≡ Past q → tag_at s at ≡ tag → among s scope.syntax scope.inside.stop tag (elements_from s scope (mark at floor)) ≡ found (head_at s scope.syntax scope.inside.stop at floor)
+      pub find_here : {q : ℕ} → close_at s item_end scope.inside at ≡ None → element_in s scope scope.inside.stop at floor ≡ Ok q → tag_at s at ≡ tag → among s scope.syntax scope.inside.stop tag (elements_from s scope (mark at floor)) ≡ found (head_at s scope.syntax scope.inside.stop at floor)
       find_here k e t = rw (elements_on, k, e, eq-eqb _ _ t)
 
-      pub find_more : {q : ℕ} → close_at s item_end scope.inside at ≡ Not → element_in s scope scope.inside.stop at floor ≡ Past q → (tag_at s at ≡ tag → ⊥) → among s scope.syntax scope.inside.stop tag (elements_from s scope (mark at floor)) ≡ among s scope.syntax scope.inside.stop tag (elements_from s scope (mark q (tag_at s at + 1)))
+      pub find_more : {q : ℕ} → close_at s item_end scope.inside at ≡ None → element_in s scope scope.inside.stop at floor ≡ Ok q → (tag_at s at ≡ tag → ⊥) → among s scope.syntax scope.inside.stop tag (elements_from s scope (mark at floor)) ≡ among s scope.syntax scope.inside.stop tag (elements_from s scope (mark q (tag_at s at + 1)))
       find_more k e t = rw (elements_on, k, e, ne_eqb _ _ t)
 
       -- nothing is found here but in an element that is read
-      find_unread : close_at s item_end scope.inside at ≡ Not → ((q : ℕ) → element_in s scope scope.inside.stop at floor ≡ Past q → among s scope.syntax scope.inside.stop tag (elements_from s scope (mark at floor)) ≡ Missing) → among s scope.syntax scope.inside.stop tag (elements_from s scope (mark at floor)) ≡ Missing
+      find_unread : close_at s item_end scope.inside at ≡ None → ((q : ℕ) → element_in s scope scope.inside.stop at floor ≡ Ok q → among s scope.syntax scope.inside.stop tag (elements_from s scope (mark at floor)) ≡ Missing) → among s scope.syntax scope.inside.stop tag (elements_from s scope (mark at floor)) ≡ Missing
       find_unread k f = unread (element_in s scope scope.inside.stop at floor) refl
         where
-          unread : (r : Read) → element_in s scope scope.inside.stop at floor ≡ r → among s scope.syntax scope.inside.stop tag (elements_from s scope (mark at floor)) ≡ Missing
-          unread (Past q) e = f q e
-          unread (Refused stop) e = find_refused k e
+          unread : (r : Result ℕ Stop) → element_in s scope scope.inside.stop at floor ≡ r → among s scope.syntax scope.inside.stop tag (elements_from s scope (mark at floor)) ≡ Missing
+          unread (Ok q) e = f q e
+          unread (Err stop) e = find_refused k e
 
-      pub find_short : close_at s item_end scope.inside at ≡ Not → scope.inside.stop - at < 8 → among s scope.syntax scope.inside.stop tag (elements_from s scope (mark at floor)) ≡ Missing
+      pub find_short : close_at s item_end scope.inside at ≡ None → scope.inside.stop - at < 8 → among s scope.syntax scope.inside.stop tag (elements_from s scope (mark at floor)) ≡ Missing
       find_short k l = find_unread k (λ q e. let b = element_past s scope.syntax scope.inside.stop at floor h scope.room e in absurd (omega arith))
 
-      pub find_above : close_at s item_end scope.inside at ≡ Not → tag < tag_at s at → among s scope.syntax scope.inside.stop tag (elements_from s scope (mark at floor)) ≡ Missing
+      pub find_above : close_at s item_end scope.inside at ≡ None → tag < tag_at s at → among s scope.syntax scope.inside.stop tag (elements_from s scope (mark at floor)) ≡ Missing
       find_above k l = find_unread k (λ q e. find_more k e (λ t. omega arith) ∙ find_below s scope tag (mark q (tag_at s at + 1)) (omega arith))
 
 -- The items, by how many there are.

@@ -5,14 +5,13 @@ use mathlib.Core.List.{List}
 use Prim.Native.Nat.{ℕ, zero, suc, ◌+◌, ◌-◌, ◌≤◌, ◌<◌}
 use native.Mathlib.Numerals.{sub-one}
 use native.Mathlib.Omega.{arith}
+use Rattle.std.specs.Prelude.{Some, None, Ok, Err}
 use Rattle.headers.specs.declared.Syntax.{Syntax}
 use Rattle.headers.specs.declared.Part.{Part}
 use Rattle.headers.specs.declared.Inside.{Inside}
 use Rattle.headers.specs.declared.Head.TheVariants.{Fault, Value, Nest}
-use Rattle.headers.specs.declared.Close.TheVariants.{Here, Not}
 use Rattle.headers.specs.Header.{tag_at, head_at, item_head_at, close_at}
 use Rattle.elements.specs.declared.Stop.{Stop}
-use Rattle.elements.specs.declared.Read.TheVariants.{Past, Refused}
 use Rattle.elements.specs.Walk.{Next, again, done, onward}
 use Rattle.elements.specs.Reader.{item_end, sequence_end, or_else, list_step, item_step, element_at, scope_of, item_at}
 use Rattle.elements.specs.Passed.{further, tally, delimiters, unless_closed, list_passed, item_passed, items_passed, element_passed, item_passed_at, passed_in}
@@ -86,13 +85,13 @@ module _ (s : List ℕ) (syntax : Syntax) (room : ℕ) (inside : Inside) (at : �
   unfolding item_step item_at items_passed item_passed_at
   passed_items_on = tally_unroll (λ x. x) inside.stop (item_step (element_at s syntax room) s room inside) _ (item_step_in (element_at s syntax room) (element_in_lem s syntax room) s room inside) at h
 
-  pub passed_items_done : {q : ℕ} → close_at s sequence_end inside at ≡ Here q → items_passed (element_at s syntax room) (element_passed s syntax room) s room inside at ≡ delimiters inside
+  pub passed_items_done : {q : ℕ} → close_at s sequence_end inside at ≡ Some q → items_passed (element_at s syntax room) (element_passed s syntax room) s room inside at ≡ delimiters inside
   passed_items_done k = passed_items_on ∙ rw k (omega arith)
 
-  pub passed_items_refused : {stop : Stop} → close_at s sequence_end inside at ≡ Not → item_at s syntax room inside.stop at ≡ Refused stop → items_passed (element_at s syntax room) (element_passed s syntax room) s room inside at ≡ item_passed_at s syntax room inside.stop at
+  pub passed_items_refused : {stop : Stop} → close_at s sequence_end inside at ≡ None → item_at s syntax room inside.stop at ≡ Err stop → items_passed (element_at s syntax room) (element_passed s syntax room) s room inside at ≡ item_passed_at s syntax room inside.stop at
   passed_items_refused k e = passed_items_on ∙ rw (k, e) (omega arith)
 
-  pub passed_items_more : {q : ℕ} → close_at s sequence_end inside at ≡ Not → item_at s syntax room inside.stop at ≡ Past q → items_passed (element_at s syntax room) (element_passed s syntax room) s room inside at ≡ item_passed_at s syntax room inside.stop at + items_passed (element_at s syntax room) (element_passed s syntax room) s room inside q
+  pub passed_items_more : {q : ℕ} → close_at s sequence_end inside at ≡ None → item_at s syntax room inside.stop at ≡ Ok q → items_passed (element_at s syntax room) (element_passed s syntax room) s room inside at ≡ item_passed_at s syntax room inside.stop at + items_passed (element_at s syntax room) (element_passed s syntax room) s room inside q
   passed_items_more k e = passed_items_on ∙ rw (k, e)
 
   module _ (floor : ℕ) where
@@ -100,11 +99,11 @@ module _ (s : List ℕ) (syntax : Syntax) (room : ℕ) (inside : Inside) (at : �
     unfolding list_step list_passed
     passed_list_on = tally_unroll place inside.stop (list_step (element_at s syntax room) s inside) _ (list_step_in (element_at s syntax room) (element_in_lem s syntax room) s room inside) (record { at = at; floor = floor }) h
 
-    pub passed_list_done : {q : ℕ} → close_at s item_end inside at ≡ Here q → list_passed (element_at s syntax room) (element_passed s syntax room) s inside (record { at = at; floor = floor }) ≡ delimiters inside
+    pub passed_list_done : {q : ℕ} → close_at s item_end inside at ≡ Some q → list_passed (element_at s syntax room) (element_passed s syntax room) s inside (record { at = at; floor = floor }) ≡ delimiters inside
     passed_list_done k = passed_list_on ∙ rw k (omega arith)
 
-    pub passed_list_refused : {stop : Stop} → close_at s item_end inside at ≡ Not → element_at s syntax room inside.stop at floor ≡ Refused stop → list_passed (element_at s syntax room) (element_passed s syntax room) s inside (record { at = at; floor = floor }) ≡ element_passed s syntax room inside.stop at floor
+    pub passed_list_refused : {stop : Stop} → close_at s item_end inside at ≡ None → element_at s syntax room inside.stop at floor ≡ Err stop → list_passed (element_at s syntax room) (element_passed s syntax room) s inside (record { at = at; floor = floor }) ≡ element_passed s syntax room inside.stop at floor
     passed_list_refused k e = passed_list_on ∙ rw (k, e) (omega arith)
 
-    pub passed_list_more : {q : ℕ} → close_at s item_end inside at ≡ Not → element_at s syntax room inside.stop at floor ≡ Past q → list_passed (element_at s syntax room) (element_passed s syntax room) s inside (record { at = at; floor = floor }) ≡ element_passed s syntax room inside.stop at floor + list_passed (element_at s syntax room) (element_passed s syntax room) s inside (record { at = q; floor = tag_at s at + 1 })
+    pub passed_list_more : {q : ℕ} → close_at s item_end inside at ≡ None → element_at s syntax room inside.stop at floor ≡ Ok q → list_passed (element_at s syntax room) (element_passed s syntax room) s inside (record { at = at; floor = floor }) ≡ element_passed s syntax room inside.stop at floor + list_passed (element_at s syntax room) (element_passed s syntax room) s inside (record { at = q; floor = tag_at s at + 1 })
     passed_list_more k e = passed_list_on ∙ rw (k, e)

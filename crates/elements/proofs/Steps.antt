@@ -4,20 +4,20 @@ use mathlib.Core.Path.{◌≡◌, refl, ap}
 use mathlib.Core.List.{List, [], ◌∷◌}
 use Prim.Native.Nat.{ℕ, zero, suc, ◌-◌, ◌≤◌, ◌<◌}
 use native.Mathlib.Omega.{arith}
-use Rattle.elements.specs.declared.Read.{Read}
-use Rattle.elements.specs.declared.Read.TheVariants.{Past, Refused}
+use Rattle.std.specs.Prelude.{Result, Ok, Err}
+use Rattle.elements.specs.declared.Stop.{Stop}
 use Rattle.elements.specs.Walk.{Next, again, done, follow, walk, on_trail, trail}
 use Rattle.elements.proofs.Within.{ReadIn, NextIn, AllIn}
 
-pub lower : (low low' end : ℕ) (r : Read) → low ≤ low' → ReadIn low' end r → ReadIn low end r
-lower low low' end (Past q) h g = (omega arith, g.1)
-lower low low' end (Refused stop) h g = g
+pub lower : (low low' end : ℕ) (r : Result ℕ Stop) → low ≤ low' → ReadIn low' end r → ReadIn low end r
+lower low low' end (Ok q) h g = (omega arith, g.1)
+lower low low' end (Err stop) h g = g
 
-follow_in : {S : Type 0} (place : S → ℕ) (low end : ℕ) (rest : S → Read) (n : Next S) → ((y : S) → place y ≤ end → ReadIn (place y) end (rest y)) → NextIn place low end n → ReadIn low end (follow rest n)
+follow_in : {S : Type 0} (place : S → ℕ) (low end : ℕ) (rest : S → Result ℕ Stop) (n : Next S) → ((y : S) → place y ≤ end → ReadIn (place y) end (rest y)) → NextIn place low end n → ReadIn low end (follow rest n)
 follow_in place low end rest (again y) f g = lower low (place y) end (rest y) (omega arith) (f y g.1)
 follow_in place low end rest (done r) f g = g
 
-follow_same : {S : Type 0} (place : S → ℕ) (low end : ℕ) (f g : S → Read) (n : Next S) → ((y : S) → low < place y → place y ≤ end → f y ≡ g y) → NextIn place low end n → follow f n ≡ follow g n
+follow_same : {S : Type 0} (place : S → ℕ) (low end : ℕ) (f g : S → Result ℕ Stop) (n : Next S) → ((y : S) → low < place y → place y ≤ end → f y ≡ g y) → NextIn place low end n → follow f n ≡ follow g n
 follow_same place low end f g (again y) same h = same y h.0 h.1
 follow_same place low end f g (done r) same h = refl
 

@@ -2,9 +2,9 @@
 -- Assumes nothing.
 use Prim.Native.Nat.{ℕ, ◌≤◌, ◌<◌}
 use mathlib.Core.List.{List, [], ◌∷◌}
+use Rattle.std.specs.Prelude.{Result, Ok, Err}
 use Rattle.headers.proofs.Within.{most_refusal, Fits}
-use Rattle.elements.specs.declared.Read.{Read}
-use Rattle.elements.specs.declared.Read.TheVariants.{Past, Refused}
+use Rattle.elements.specs.declared.Stop.{Stop}
 use Rattle.elements.specs.declared.Found.{Found}
 use Rattle.elements.specs.declared.Found.TheVariants.{Missing, Value, Sequence}
 use Rattle.elements.specs.declared.Items.{Items}
@@ -13,9 +13,9 @@ use Rattle.elements.specs.Walk.{Next, again, done}
 use Rattle.elements.specs.Reader.{most_nested}
 
 -- the place after what was read is at least `low` and at most `end`; a reading stops no later, in no more sequences than are read
-abbrev pub ReadIn : ℕ → ℕ → Read → Type 0
-ReadIn low end (Past q) = (low ≤ q) × (q ≤ end)
-ReadIn low end (Refused stop) = (stop.number ≤ most_refusal) × (stop.place ≤ end) × (stop.depth ≤ most_nested)
+abbrev pub ReadIn : ℕ → ℕ → Result ℕ Stop → Type 0
+ReadIn low end (Ok q) = (low ≤ q) × (q ≤ end)
+ReadIn low end (Err stop) = (stop.number ≤ most_refusal) × (stop.place ≤ end) × (stop.depth ≤ most_nested)
 
 -- a step goes on from a further place, or ends
 abbrev pub NextIn : {S : Type 0} → (S → ℕ) → ℕ → ℕ → Next S → Type 0

@@ -1,13 +1,11 @@
 -- R-6, rule 5.17: how many headers a reading passes, one for each element, item or delimiter that is read whole.
-use Rattle.std.specs.Prelude.{ℕ, zero, suc, ◌+◌, ◌-◌, List}
+use Rattle.std.specs.Prelude.{ℕ, zero, suc, ◌+◌, ◌-◌, List, Option, Some, None}
 use Rattle.choice.specs.Pick.{pick}
 use Rattle.headers.specs.declared.Syntax.{Syntax}
 use Rattle.headers.specs.declared.Inside.{Inside}
 use Rattle.headers.specs.declared.Scope.{Scope}
 use Rattle.headers.specs.declared.Head.{Head}
 use Rattle.headers.specs.declared.Head.TheVariants.{Fault, Value, Nest}
-use Rattle.headers.specs.declared.Close.{Close}
-use Rattle.headers.specs.declared.Close.TheVariants.{Here, Not}
 use Rattle.headers.specs.Header.{head_at, item_head_at, close_at}
 use Rattle.elements.specs.Walk.{Next, again, done}
 use Rattle.elements.specs.Reader.{item_end, sequence_end, Elem, Mark, start, list_step, item_step, element_at, element_in, data_scope}
@@ -33,9 +31,9 @@ abbrev pub delimiters : Inside → ℕ
 delimiters inside = pick inside.loose 1 0
 
 -- at the end of a list or a sequence, or with one more part
-abbrev pub unless_closed : Inside → Close → ℕ → ℕ
-unless_closed inside (Here q) more = delimiters inside
-unless_closed inside Not more = more
+abbrev pub unless_closed : Inside → Option ℕ → ℕ → ℕ
+unless_closed inside (Some q) more = delimiters inside
+unless_closed inside None more = more
 
 -- what an element passes, of the enclosing end, its place, and the lowest tag that may stand there
 abbrev pub Passing : Type 0

@@ -5,7 +5,7 @@ ghost use Rattle.std.specs.Prelude.{◌≡◌, ◌≤◌, ◌-◌, length};
 ghost use Rattle.elements.specs.Reader.{most_nested, refused_at, element_at, item_at, list_at, data_scope, data_set};
 ghost use Rattle.elements.specs.Passed.{delimiters, element_passed, item_passed_at, passed_in, headers_passed};
 
-use headers::{Close, Head, Inside, Part, Scope, Syntax, closing, item_head, tag_at};
+use headers::{Head, Inside, Part, Scope, Syntax, closing, item_head, tag_at};
 use syntaxes::element_head;
 
 // The delimiters that close an item's list and a sequence of undefined length.
@@ -16,7 +16,8 @@ pub const SEQUENCE_END: usize = 0xFFFE_E0DD;
 // So many sequences within one another are read.
 pub const NESTED: usize = 4;
 
-// Where the reading stopped: the number of the refusal, the first byte of the header at fault, and how many sequences that lies in.
+// Where the reading stopped: the number of the refusal, as the book's rules number it and the report shows it, the first
+// byte of the header at fault, and how many sequences that lies in.
 #[derive(Clone, Copy)]
 pub struct Stop {
     pub number: usize,
@@ -24,17 +25,11 @@ pub struct Stop {
     pub depth: usize,
 }
 
-// The place after what was read, or where the reading stopped.
-#[derive(Clone, Copy)]
-pub enum Read {
-    Past(usize),
-    Refused(Stop),
-}
-
-// What was read, and how many headers were passed: elements, items and delimiters that were read whole.
+// The place after what was read or where the reading stopped, and how many headers were passed: elements, items and
+// delimiters that were read whole.
 #[derive(Clone, Copy)]
 pub struct Reading {
-    pub read: Read,
+    pub read: Result<usize, Stop>,
     pub passed: usize,
 }
 
@@ -66,28 +61,19 @@ fn list(s: &[u8], scope: Scope) -> Reading
     let mut floor = 0;
     let mut passed = 0;
     loop {
-        let close = closing(s, ITEM_END, inside, p);
-        if let Close::Here(q) = close {
+        if let Some(q) = closing(s, ITEM_END, inside, p) {
             return Reading {
-                read: Read::Past(q),
+                read: Ok(q),
                 passed: passed + delimiters(inside),
             };
         }
         let part = element(s, syntax, scope.room, inside.stop, p, floor);
         passed += part.passed;
-        let read = part.read;
-        match read {
-            Read::Past(q) => {
-                floor = tag_at(s, p) + 1;
-                p = q;
-            }
-            Read::Refused(stop) => {
-                return Reading {
-                    read: Read::Refused(stop),
-                    passed,
-                };
-            }
-        }
+        let Ok(q) = part.read else {
+            return Reading { passed, ..part };
+        };
+        floor = tag_at(s, p) + 1;
+        p = q;
     }
 }
 
@@ -95,20 +81,14 @@ fn list(s: &[u8], scope: Scope) -> Reading
 fn delimiters(inside: Inside) -> usize
     ensures { (result ≡ delimiters inside) × (result ≤ 1) }
 {
-    if inside.loose {
-        return 1;
-    }
-    0
+    usize::from(inside.loose)
 }
 
 // How many sequences a header lies in, where there is room for so many more.
 fn depth_of(room: usize) -> usize
     ensures { result ≡ most_nested - room }
 {
-    if room < NESTED {
-        return NESTED - room;
-    }
-    0
+    NESTED.saturating_sub(room)
 }
 
 // A header at fault, where there is room for so many sequences: it is not passed.
@@ -117,7 +97,7 @@ pub fn refused(number: usize, at: usize, room: usize) -> Reading
 {
     let depth = depth_of(room);
     Reading {
-        read: Read::Refused(Stop {
+        read: Err(Stop {
             number,
             place: at,
             depth,
@@ -142,7 +122,7 @@ pub fn element(
     match element_head(s, syntax, end, at, floor) {
         Head::Fault(n) => refused(n, at, room),
         Head::Value(part) => Reading {
-            read: Read::Past(part.stop),
+            read: Ok(part.stop),
             passed: 1,
         },
         Head::Nest(inside) => {
@@ -152,27 +132,18 @@ pub fn element(
             let mut p = inside.from;
             let mut passed = 1;
             loop {
-                let close = closing(s, SEQUENCE_END, inside, p);
-                if let Close::Here(q) = close {
+                if let Some(q) = closing(s, SEQUENCE_END, inside, p) {
                     return Reading {
-                        read: Read::Past(q),
+                        read: Ok(q),
                         passed: passed + delimiters(inside),
                     };
                 }
                 let part = item(s, syntax, room - 1, inside.stop, p);
                 passed += part.passed;
-                let read = part.read;
-                match read {
-                    Read::Past(q) => {
-                        p = q;
-                    }
-                    Read::Refused(stop) => {
-                        return Reading {
-                            read: Read::Refused(stop),
-                            passed,
-                        };
-                    }
-                }
+                let Ok(q) = part.read else {
+                    return Reading { passed, ..part };
+                };
+                p = q;
             }
         }
     }
@@ -187,7 +158,7 @@ pub fn item(s: &[u8], syntax: Syntax, room: usize, end: usize, at: usize) -> Rea
     match item_head(s, end, at) {
         Head::Fault(number) => refused(number, at, room),
         Head::Value(part) => Reading {
-            read: Read::Past(part.stop),
+            read: Ok(part.stop),
             passed: 1,
         },
         Head::Nest(inside) => {
@@ -199,10 +170,9 @@ pub fn item(s: &[u8], syntax: Syntax, room: usize, end: usize, at: usize) -> Rea
                     inside,
                 },
             );
-            let read = held.read;
             Reading {
-                read,
                 passed: held.passed + 1,
+                ..held
             }
         }
     }

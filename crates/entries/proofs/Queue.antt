@@ -1,12 +1,15 @@
 -- An entry and the queue by their bytes; a test of each entry.
 -- Assumes nothing.
-use Prim.Native.Nat.{ℕ, ◌+◌, ◌*◌, ◌-◌, ◌<◌, ◌≤◌}
+use Prim.Native.Nat.{ℕ, ◌+◌, ◌*◌, ◌-◌, ◌≤◌}
 use mathlib.Core.Path.{◌≡◌, refl, ap, ◌∙◌}
-use mathlib.Core.Bool.{Bool, true, false, not}
+use mathlib.Core.Bool.{Bool, true, false}
 use mathlib.Core.List.{List, [], ◌∷◌}
 use native.Mathlib.Omega.{arith}
+use denote.Param.Members.{Mut, Called}
 use lib.Dec.{leb, ltb}
 use lib.ListN.{length, get_or, take, drop}
+use Rattle.std.specs.Iterator.{ChecksAll}
+use Rattle.std.proofs.iter.Yields.{nat_range_steps}
 use Rattle.octets.specs.Octets.{part}
 use Rattle.fields.specs.Format.{array, read_all}
 use Rattle.rules.specs.declared.Picture.{Picture}
@@ -18,7 +21,8 @@ use Rattle.rules.specs.Records.{entries_of}
 use Rattle.rules.specs.Sound.{all, between, zeros, name_sound, entry_sound, entry_blank, queue_sound}
 use Rattle.records.specs.Places.{queue_place, opened_place, numbers_in, queue_in}
 use Rattle.records.proofs.Blank.{entries_blank}
-use Rattle.distinct.proofs.Arrays.{read_on, read_not, read_end}
+use Rattle.distinct.proofs.Arrays.{next_read, none_read}
+use Rattle.distinct.proofs.Ranges.{each_lem, all_told, passes_told}
 use Rattle.entries.specs.Entries.{entry_place, entries_in}
 
 -- an entry's tests
@@ -28,27 +32,23 @@ pub entry_told : (b : List ℕ) (p next : ℕ) → next ≡ (numbers_in b).pictu
 unfolding entry_sound entry_format picture_format
 entry_told b p next e t = t ∙ rw e
 
--- a test of each entry
-module _ (test : Entry → Bool) (b : List ℕ) (n i : ℕ) where
-  module _ (p : ℕ) (at : p ≡ entry_place i) (l : i < n) (h : n ≤ most_entries) (told : Bool) (e : told ≡ test (entry_format.read b p)) where
-    pub entry_on : told ≡ true → every test (drop i (entries_in b n)) ≡ every test (drop (i + 1) (entries_in b n))
-    unfolding read_all queue_format entry_format picture_format name_format serial_format
-    entry_on = read_on entry_format b (queue_place + 1) most_entries n i test refl p at l h told e
-
-    pub entry_not : told ≡ false → every test (drop i (entries_in b n)) ≡ false
-    unfolding read_all queue_format entry_format picture_format name_format serial_format
-    entry_not = read_not entry_format b (queue_place + 1) most_entries n i test refl p at l h told e
-
-  pub entry_end : n ≤ i → every test (drop i (entries_in b n)) ≡ true
-  unfolding queue_format
-  entry_end = read_end entry_format b (queue_place + 1) most_entries n i test
+-- what the code's `all` told of the first entries
+pub entries_told : (test : Entry → Bool) (b : List ℕ) (n : ℕ) → n ≤ most_entries → {F : Type 0} {g : Mut F (ℕ × Unit {0}) Bool} {u : _} (f : F) (r : Bool)
+    → ChecksAll nat_range_steps g (record { start = 0; end = n }) f r u
+    → ((x : ℕ) (q : F) → Called g f (x, tt) true q → (q ≡ f) × (test (entry_format.read b (entry_place x)) ≡ true)) → ((x : ℕ) (q : F) → Called g f (x, tt) false q → test (entry_format.read b (entry_place x)) ≡ false)
+    → r ≡ every test (entries_in b n)
+unfolding read_all queue_format entry_format picture_format name_format serial_format
+entries_told test b n few f r ran passed failed =
+    passes_told (each_lem test) (entries_in b n) n (λ k. entry_format.read b (entry_place k))
+    (λ k l. next_read entry_format b (queue_place + 1) most_entries n k refl (entry_place k) refl l few) (λ k h. none_read entry_format b (queue_place + 1) most_entries n k h)
+    0 r (all_told (λ k. test (entry_format.read b (entry_place k))) 0 n f r ran passed failed)
 
 -- the queue's tests
-pub queue_told : (b : List ℕ) {r : Bool} → (let count = get_or b queue_place 0 in
+pub queue_told : (b : List ℕ) (count : ℕ) {r : Bool} → count ≡ get_or b queue_place 0 → (
     r ≡ all (leb count most_entries ∷ every (entry_sound (numbers_in b)) (entries_in b count) ∷ every entry_blank (drop count (queue_in b).entries) ∷ [])
     → r ≡ queue_sound (numbers_in b) (queue_in b))
 unfolding queue_sound entries_of queue_format
-queue_told b t = t
+queue_told b count e t = t ∙ rw e
 
 -- the places behind the entries are zeros
 pub rest_blank : (b : List ℕ) (k : ℕ) → k ≤ most_entries → records_size ≤ length b → every entry_blank (drop k (queue_in b).entries) ≡ zeros (part b (entry_place k) opened_place)

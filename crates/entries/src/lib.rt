@@ -10,7 +10,7 @@ ghost use Rattle.rules.specs.Sound.{queue_sound, entry_sound};
 ghost use Rattle.records.specs.Places.{numbers_in, queue_in};
 ghost use Rattle.entries.specs.Entries.{entry_place, entries_in};
 
-use records::{AT_ENTRIES, AT_OPENED, AT_PICTURE, AT_QUEUE, ENTRY, PICTURE, PICTURES};
+use records::{AT_ENTRIES, AT_OPENED, AT_PICTURE, AT_QUEUE, ENTRY, PICTURE, PICTURES, Records};
 use rules::BOXES;
 
 fn picture_below(b: &[u8], p: usize, next: u64) -> bool
@@ -26,29 +26,24 @@ fn pictures_below(b: &[u8], p: usize, next: u64) -> bool
     ensures { result ≡ every (λ x. ltb x.0 next) ((array most_boxes picture_format).read b.now p) }
 {
     let mut below = true;
-    let mut i = 0;
-    while i < BOXES {
+    for i in 0..BOXES {
         if !picture_below(b, p + i * PICTURE, next) {
             below = false;
         }
-        i += 1;
     }
     below
 }
 
-fn entry_sound(b: &[u8], p: usize, next: u64) -> bool
-    requires { (records_size ≤ length b.now) × (p + entry_size ≤ length b.now) × (next ≡ (numbers_in b.now).picture) }
+fn entry_sound(b: &Records, p: usize, next: u64) -> bool
+    requires { (p + entry_size ≤ length b.now) × (next ≡ (numbers_in b.now).picture) }
     ensures { result ≡ entry_sound (numbers_in b.now) (entry_format.read b.now p) }
 {
     if !pictures_below(b, p, next) {
         return false;
     }
     let p1 = p + PICTURES + 2;
-    if !sessions::copies_allowed(b[p1]) {
-        return false;
-    }
     let p2 = p1 + 1;
-    names::name_sound(b, p2)
+    sessions::copies_allowed(b[p1]) && names::name_sound(b, p2)
 }
 
 // Where an entry stands.
@@ -59,31 +54,20 @@ fn entry_place(i: usize) -> usize
     AT_ENTRIES + i * ENTRY
 }
 
-fn entries_sound(b: &[u8], n: usize) -> bool
-    requires { (records_size ≤ length b.now) × (n ≤ 16) }
+fn entries_sound(b: &Records, n: usize) -> bool
+    requires { n ≤ 16 }
     ensures { result ≡ every (entry_sound (numbers_in b.now)) (entries_in b.now n) }
 {
     let picture = names::next_at(b, AT_PICTURE);
-    let mut i = 0;
-    while i < n {
-        if !entry_sound(b, entry_place(i), picture) {
-            return false;
-        }
-        i += 1;
-    }
-    true
+    (0..n).all(|i| entry_sound(b, entry_place(i), picture))
 }
 
-pub fn queue_sound(b: &[u8]) -> bool
-    requires { records_size ≤ length b.now }
+pub fn queue_sound(b: &Records) -> bool
     ensures { result ≡ queue_sound (numbers_in b.now) (queue_in b.now) }
 {
-    let count = b[AT_QUEUE] as usize;
+    let count = usize::from(b[AT_QUEUE]);
     if 16 < count {
         return false;
     }
-    if !entries_sound(b, count) {
-        return false;
-    }
-    names::zeros_in(b, AT_ENTRIES + count * ENTRY, AT_OPENED)
+    entries_sound(b, count) && names::zeros_in(b, AT_ENTRIES + count * ENTRY, AT_OPENED)
 }

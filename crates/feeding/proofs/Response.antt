@@ -2,9 +2,11 @@
 -- Assumes nothing.
 use Prim.Native.Nat.{ℕ, zero, suc, ◌+◌, ◌≤◌}
 use mathlib.Core.Path.{◌≡◌, refl, sym, ap, ◌∙◌}
-use mathlib.Core.Bool.{Bool, true, false}
+use mathlib.Core.Bool.{true, false}
 use mathlib.Core.List.{List, [], ◌∷◌, map}
 use mathlib.Core.Option.{Option}
+use Rattle.std.specs.Prelude as declared
+use Rattle.std.specs.Prelude.{None, Some}
 use native.Mathlib.Omega.{arith}
 use lib.Dec.{eqb, ltb}
 use lib.ListN.{length, take, length-append, length-take}
@@ -17,14 +19,14 @@ use Rattle.uids.proofs.Made.{made_short}
 use Rattle.headers.specs.declared.Syntax.{Syntax}
 use Rattle.headers.specs.declared.Syntax.TheVariants.{Implicit}
 use Rattle.writing.specs.Bytes.{written}
-use Rattle.elements.specs.declared.Stop.{Stop}
 use Rattle.rules.specs.declared.Name.{Name}
 use Rattle.rules.specs.declared.Numbers.{Numbers}
 use Rattle.rules.specs.declared.Core.{Core}
-use Rattle.rules.specs.declared.Contents.TheVariants.{NewBoxes}
+use Rattle.rules.specs.declared.NewBoxes.{NewBoxes}
 use Rattle.rules.specs.declared.Verdict.{Verdict}
 use Rattle.rules.specs.declared.Operation.{Operation}
 use Rattle.rules.specs.declared.Operation.TheVariants.{Echo, Create, Set, Act, Delete}
+use Rattle.rules.specs.declared.Note.{Note}
 use Rattle.rules.specs.declared.Request.{Request}
 use Rattle.rules.specs.Lists.{from}
 use Rattle.rules.specs.Records.{root_of, uid_of, instance_of, syntax_in}
@@ -36,7 +38,7 @@ use Rattle.rules.specs.Outcomes.{report_bytes}
 use Rattle.responses.specs.Parts.{given, action_by, says_by, data_shown, report_by}
 use Rattle.responses.proofs.Response.{data_shown_lem}
 use Rattle.verdicts.specs.Ready.{UidIn, UidsIn}
-use Rattle.feeding.specs.Feeding.{is_action, kind_of, command_bytes, report_of, unknown_reply}
+use Rattle.feeding.specs.Feeding.{command_bytes, numbers_of, report_of, unknown_reply}
 
 pub front_short : (s front : List ℕ) (n most : ℕ) → front ≡ take n s → n ≤ most → length front ≤ most
 front_short s front n most e h = rw e (omega (arith, length-take n s))
@@ -82,11 +84,11 @@ module _ (n : Numbers) (name : Name) (s out : List ℕ) (r : ℕ) where
 
 -- The data set.
 
-pub new_boxes_laid : (k : Core) (first count : ℕ) (s out root : List ℕ) (r : ℕ) (syntax : Syntax) → root ≡ take k.numbers.used k.numbers.root → syntax ≡ syntax_in k
-    → (out ≡ laid s 0 (written syntax (film_tree (map (made root) (from first count))))) × (r ≡ length (written syntax (film_tree (map (made root) (from first count)))))
-    → (out ≡ laid s 0 (data_set_of k (NewBoxes first count))) × (r ≡ length (data_set_of k (NewBoxes first count)))
+pub new_boxes_laid : (k : Core) (boxes : NewBoxes) (s out root : List ℕ) (r : ℕ) (syntax : Syntax) → root ≡ take k.numbers.used k.numbers.root → syntax ≡ syntax_in k
+    → (out ≡ laid s 0 (written syntax (film_tree (map (made root) (from boxes.first boxes.count))))) × (r ≡ length (written syntax (film_tree (map (made root) (from boxes.first boxes.count)))))
+    → (out ≡ laid s 0 (data_set_of k (Some boxes))) × (r ≡ length (data_set_of k (Some boxes)))
 unfolding root_of
-new_boxes_laid k first count s out root r syntax e i h = (rw (← e, ← i) h.0, rw (← e, ← i) h.1)
+new_boxes_laid k boxes s out root r syntax e i h = (rw (← e, ← i) h.0, rw (← e, ← i) h.1)
 
 -- The command set.
 
@@ -97,38 +99,22 @@ class_uid c (Set r) h = h.0
 class_uid c (Act r) h = h.0
 class_uid c (Delete r) h = h.0
 
-action_of_lem : (o : Operation) → action_by (is_action o) (kind_of o) ≡ action_of o
-action_of_lem (Echo r) = refl
-action_of_lem (Create r) = refl
-action_of_lem (Set r) = refl
-action_of_lem (Act r) = refl
-action_of_lem (Delete r) = refl
-
-pub says_by_lem : (c : List ℕ) (r : Request) (class instance : List ℕ) (field : ℕ) (acts : Bool) (kind : ℕ)
-    → is_uid (uid_at c (class_part r.operation)) ≡ true → class ≡ uid_at c (class_part r.operation) → field ≡ field_of r.operation → acts ≡ is_action r.operation → kind ≡ kind_of r.operation
-    → says_by class field r.message instance acts kind ≡ says c r (given instance)
+pub says_by_lem : (c : List ℕ) (r : Request) (class instance : List ℕ) (field : ℕ) (action : declared.Option ℕ)
+    → is_uid (uid_at c (class_part r.operation)) ≡ true → class ≡ uid_at c (class_part r.operation) → field ≡ field_of r.operation → action_by action ≡ action_of r.operation
+    → says_by class field r.message instance action ≡ says c r (given instance)
 unfolding says_by
-says_by_lem c r class instance field acts kind h ec ef ea ek =
-    rw (ec, ef, ea, ek, action_of_lem r.operation, ne_eqb (length (uid_at c (class_part r.operation))) 0 (uid_some (uid_at c (class_part r.operation)) h))
+says_by_lem c r class instance field action h ec ef ea =
+    rw (ec, ef, ea, ne_eqb (length (uid_at c (class_part r.operation))) 0 (uid_some (uid_at c (class_part r.operation)) h))
 
 -- The report.
 
-module _ (status command size : ℕ) where
-  pub note_none : report_by status command size 0 0 0 0 ≡ report_of status command size NoNote
-  unfolding report_by report_of octets
-  note_none = refl
-
-  pub note_queued : (films : ℕ) → report_by status command size 1 films 0 0 ≡ report_of status command size (FilmsQueued films)
-  unfolding report_by report_of octets
-  note_queued films = refl
-
-  pub note_picture : (number place extent : ℕ) → report_by status command size 2 number place extent ≡ report_of status command size (PictureAt number place extent)
-  unfolding report_by report_of
-  note_picture number place extent = refl
-
-  pub note_stopped : (stop : Stop) → report_by status command size 3 stop.number stop.place stop.depth ≡ report_of status command size (StoppedAt stop)
-  unfolding report_by report_of
-  note_stopped stop = refl
+pub note_told : (status command size : ℕ) (note : Note)
+    → report_by status command size (numbers_of note).kind (numbers_of note).first (numbers_of note).second (numbers_of note).third ≡ report_of status command size note
+unfolding report_by report_of octets
+note_told status command size NoNote = refl
+note_told status command size (FilmsQueued films) = refl
+note_told status command size (PictureAt number place extent) = refl
+note_told status command size (StoppedAt stop) = refl
 
 -- The whole response.
 
@@ -164,9 +150,9 @@ module _ (k : Core) (c : List ℕ) (r : Request) (v : Verdict) (size stop : ℕ)
 
 -- The response to an unknown field.
 pub unknown_responded : (message field stop : ℕ) (command commandAfter report reportAfter : List ℕ)
-    → (commandAfter ≡ laid command 0 (written Implicit (response_tree (says_by [] field message [] false 0) 0x0211 (data_shown false)))) × (stop ≡ length (written Implicit (response_tree (says_by [] field message [] false 0) 0x0211 (data_shown false))))
-    → reportAfter ≡ laid report 0 (report_by 0x0211 stop 0 0 0 0 0)
+    → (commandAfter ≡ laid command 0 (written Implicit (response_tree (says_by [] field message [] None) 0x0211 (data_shown false)))) × (stop ≡ length (written Implicit (response_tree (says_by [] field message [] None) 0x0211 (data_shown false))))
+    → reportAfter ≡ laid report 0 (report_of 0x0211 stop 0 NoNote)
     → (commandAfter ≡ laid command 0 (unknown_reply message field).command) × (reportAfter ≡ laid report 0 (report_bytes (unknown_reply message field)))
 unfolding says_by reply report_bytes report_of
 unknown_responded message field stop command commandAfter report reportAfter s t =
-    (s.0, t ∙ ap (λ (x : List ℕ). laid report 0 x) (note_none 0x0211 stop 0 ∙ ap (λ (n : ℕ). report_of 0x0211 n 0 NoNote) s.1))
+    (s.0, t ∙ ap (λ (n : ℕ). laid report 0 (report_of 0x0211 n 0 NoNote)) s.1)

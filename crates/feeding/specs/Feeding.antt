@@ -1,5 +1,5 @@
 -- What a feed writes, in the parts that it is written in.
-use Rattle.std.specs.Prelude.{ℕ, ◌+◌, Bool, true, false, List, [], ◌++◌}
+use Rattle.std.specs.Prelude.{ℕ, Bool, List, [], ◌++◌}
 use Rattle.std.proofs.Math.Option.{Option}
 use Rattle.choice.specs.Pick.{pick}
 use Rattle.octets.specs.Octets.{octets, laid}
@@ -8,36 +8,26 @@ use Rattle.writing.specs.Bytes.{written}
 use Rattle.strike.specs.Machine.{idle}
 use Rattle.rules.specs.declared.Core.{Core}
 use Rattle.rules.specs.declared.Input.{Input}
-use Rattle.rules.specs.declared.Operation.{Operation}
-use Rattle.rules.specs.declared.Operation.TheVariants.{Echo, Create, Set, Act, Delete}
 use Rattle.rules.specs.declared.Request.{Request}
 use Rattle.rules.specs.Layout.{unpack, pack}
 use Rattle.rules.specs.declared.Note.{Note}
-use Rattle.rules.specs.declared.Note.TheVariants.{NoNote}
+use Rattle.rules.specs.declared.Note.TheVariants.{NoNote, FilmsQueued, PictureAt, StoppedAt}
+use Rattle.responses.specs.declared.NoteNumbers.{NoteNumbers}
 use Rattle.rules.specs.Responses.{Reply, reply, response_tree}
 use Rattle.rules.specs.Checks.{says, says_unknown}
 use Rattle.rules.specs.Outcomes as outcomes
 use Rattle.rules.specs.Outcomes.{input_held, note_bytes}
 
--- Only N-ACTION has an action type.
-
-abbrev pub is_action : Operation → Bool
-is_action (Echo r) = false
-is_action (Create r) = false
-is_action (Set r) = false
-is_action (Act r) = true
-is_action (Delete r) = false
-
-abbrev pub kind_of : Operation → ℕ
-kind_of (Echo r) = 0
-kind_of (Create r) = 0
-kind_of (Set r) = 0
-kind_of (Act r) = r.kind
-kind_of (Delete r) = 0
-
 -- the bytes of a response's command set
 abbrev pub command_bytes : List ℕ → Request → Option (List ℕ) → ℕ → List ℕ → List ℕ
 command_bytes c r instance status d = written Implicit (response_tree (says c r instance) status d)
+
+-- a note as the report has it
+abbrev pub numbers_of : Note → NoteNumbers
+numbers_of NoNote = record { kind = 0; first = 0; second = 0; third = 0 }
+numbers_of (FilmsQueued films) = record { kind = 1; first = films; second = 0; third = 0 }
+numbers_of (PictureAt number place extent) = record { kind = 2; first = number; second = place; third = extent }
+numbers_of (StoppedAt stop) = record { kind = 3; first = stop.number; second = stop.place; third = stop.depth }
 
 -- the report, from the lengths of command and data set
 unfoldable pub report_of : ℕ → ℕ → ℕ → Note → List ℕ

@@ -27,7 +27,7 @@ unfolding write
 write_block a s at n e = rw (all_bytes a n (omega arith), take_all n a (omega arith))
 
 -- a copy out of a part of s
-pub copied_out : (s d x : List ℕ) (at : ℕ) → at + length d ≤ length s → x ≡ part s at (at + length d) → x ≡ (array (length d) byte).read s at
-copied_out s d x at h e =
-    let k : at + length d - at ≡ length d = omega arith in
-    e ∙ rw k (sym (all_read s at (length d) h))
+pub copied_out : (s x : List ℕ) (at n : ℕ) → at + n ≤ length s → x ≡ part s at (at + n) → x ≡ (array n byte).read s at
+copied_out s x at n h e =
+    let k : at + n - at ≡ n = omega arith in
+    e ∙ rw k (sym (all_read s at n h))

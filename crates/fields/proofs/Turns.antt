@@ -7,6 +7,7 @@ use native.Mathlib.Numerals.{add-one}
 use native.Mathlib.Omega.{arith}
 use lib.ListN.{length, get_or, set, take}
 use lib.Seq.{take-suc-set, take_all}
+use Rattle.std.proofs.lemmas.List.{get_or_default}
 use Rattle.octets.proofs.Laid.{laid_none}
 use Rattle.fields.specs.Format.{Format, write, read_all, bytes_all, array}
 use Rattle.fields.proofs.Laws.{Laws, array_laws}
@@ -42,9 +43,10 @@ module _ {A : Type 0} (f : Format A) where
       let j : i ≡ n = omega arith in
       d ∙ rw j
 
-pub write_turn : {A : Type 0} {f : Format A} (F : Laws f) {n : ℕ} → f.size ≡ n → (s₀ s t : List ℕ) (at i : ℕ) (xs : List A) → at + i * n ≤ length s₀
-    → t ≡ write f (get_or xs i f.blank) s (at + i * n) → s ≡ write (array i f) xs s₀ at → t ≡ write (array (i + 1) f) xs s₀ at
+pub write_turn : {A : Type 0} {f : Format A} (F : Laws f) {n : ℕ} → f.size ≡ n → (s₀ s t : List ℕ) (at i : ℕ) (xs : List A) (d : A) → at + i * n ≤ length s₀ → i < length xs
+    → t ≡ write f (get_or xs i d) s (at + i * n) → s ≡ write (array i f) xs s₀ at → t ≡ write (array (i + 1) f) xs s₀ at
 unfolding write bytes_all
-write_turn {f} F w s₀ s t at i xs h e d =
-    let there = e ∙ ap (λ k. write f (get_or xs i f.blank) s (at + i * k)) (sym w) in
-    there ∙ rw (d, add-one i) (sym (write_then (array_laws i F) f (xs, get_or xs i f.blank) s₀ at (rw w h)))
+write_turn {f} F {n} w s₀ s t at i xs d h l e k =
+    let x = get_or xs i f.blank in
+    let there = e ∙ ap (λ y. write f y s (at + i * n)) (get_or_default xs i d f.blank l) ∙ ap (λ m. write f x s (at + i * m)) (sym w) in
+    there ∙ rw (k, add-one i) (sym (write_then (array_laws i F) f (xs, x) s₀ at (rw w h)))

@@ -33,62 +33,20 @@ pub fn put_number(s: &mut [u8], at: usize, width: usize, x: u64)
     octets::put_number(s, at, width, x);
 }
 
-// The bytes at a place, as many as d takes.
-fn bytes_at(s: &[u8], at: usize, d: &mut [u8])
-    requires { at + length d.old ≤ length s.now }
-    ensures { d.new ≡ (array (length d.old) byte).read s.now at }
+// The N bytes at a place.
+pub fn bytes_at<const N: usize>(s: &[u8], at: usize) -> [u8; N]
+    requires { at + N ≤ length s.now }
+    ensures { result ≡ (array N byte).read s.now at }
 {
-    let end = at + d.len();
-    d.copy_from_slice(&s[at..end]);
-}
-
-pub fn bytes6_at(s: &[u8], at: usize) -> [u8; 6]
-    requires { at + 6 ≤ length s.now }
-    ensures { result ≡ (array 6 byte).read s.now at }
-{
-    let mut a = [0u8; 6];
-    bytes_at(s, at, &mut a);
+    let mut a = [0u8; N];
+    let end = at + N;
+    a.copy_from_slice(&s[at..end]);
     a
 }
 
-pub fn put_bytes6(s: &mut [u8], at: usize, a: [u8; 6])
-    requires { at + 6 ≤ length s.old }
-    ensures { s.new ≡ write (array 6 byte) a s.old at }
+pub fn put_bytes<const N: usize>(s: &mut [u8], at: usize, a: &[u8; N])
+    requires { at + N ≤ length s.old }
+    ensures { s.new ≡ write (array N byte) a.now s.old at }
 {
-    let b = a;
-    octets::put(s, at, &b);
-}
-
-pub fn bytes40_at(s: &[u8], at: usize) -> [u8; 40]
-    requires { at + 40 ≤ length s.now }
-    ensures { result ≡ (array 40 byte).read s.now at }
-{
-    let mut a = [0u8; 40];
-    bytes_at(s, at, &mut a);
-    a
-}
-
-pub fn put_bytes40(s: &mut [u8], at: usize, a: [u8; 40])
-    requires { at + 40 ≤ length s.old }
-    ensures { s.new ≡ write (array 40 byte) a s.old at }
-{
-    let b = a;
-    octets::put(s, at, &b);
-}
-
-pub fn bytes64_at(s: &[u8], at: usize) -> [u8; 64]
-    requires { at + 64 ≤ length s.now }
-    ensures { result ≡ (array 64 byte).read s.now at }
-{
-    let mut a = [0u8; 64];
-    bytes_at(s, at, &mut a);
-    a
-}
-
-pub fn put_bytes64(s: &mut [u8], at: usize, a: [u8; 64])
-    requires { at + 64 ≤ length s.old }
-    ensures { s.new ≡ write (array 64 byte) a s.old at }
-{
-    let b = a;
-    octets::put(s, at, &b);
+    octets::put(s, at, a);
 }

@@ -1,13 +1,12 @@
 -- A box by its bytes, and the boxes behind the film's.
 -- Assumes nothing.
-use Prim.Native.Nat.{ℕ, ◌+◌, ◌*◌, ◌-◌, ◌<◌, ◌≤◌}
+use Prim.Native.Nat.{ℕ, ◌+◌, ◌*◌, ◌-◌, ◌≤◌}
 use mathlib.Core.Path.{◌≡◌, sym, ap, ◌∙◌}
-use mathlib.Core.Bool.{true, false}
+use mathlib.Core.Bool.{Bool, true, false}
 use mathlib.Core.List.{List}
 use native.Mathlib.Omega.{arith}
 use lib.Dec.{leb, ltb}
 use lib.ListN.{length, get_or, take, drop}
-use borrow.Author.Tests.{le-leb, lt-leb, le-ltb, lt-ltb}
 use Rattle.choice.specs.Pick.{both}
 use Rattle.choice.proofs.Picks.{both_only}
 use Rattle.octets.specs.Octets.{number_at, part}
@@ -24,23 +23,11 @@ module _ (b : List ℕ) (p boxes next picture : ℕ) (n : next ≡ (numbers_in b
   unfolding box_format picture_format every
   box_tests = rw (e, n, both_only (ltb (number_at 4 b (p + 1 + 1)) (numbers_in b).picture))
 
-  pub no_position : get_or b p 0 < 1 → false ≡ box_sound boxes (numbers_in b) (box_format.read b p)
-  no_position h = sym (box_tests ∙ rw (lt-leb 1 (get_or b p 0) h))
+  pub misplaced : between 1 boxes (get_or b p 0) ≡ false → false ≡ box_sound boxes (numbers_in b) (box_format.read b p)
+  misplaced h = sym (box_tests ∙ rw h)
 
-  module _ (low : 1 ≤ get_or b p 0) where
-    pub far_position : boxes < get_or b p 0 → false ≡ box_sound boxes (numbers_in b) (box_format.read b p)
-    far_position h = sym (box_tests ∙ rw (le-leb 1 (get_or b p 0) low, lt-leb (get_or b p 0) boxes h))
-
-    module _ (high : get_or b p 0 ≤ boxes) where
-      pub no_polarity : 1 < get_or b (p + 1) 0 → false ≡ box_sound boxes (numbers_in b) (box_format.read b p)
-      no_polarity h = sym (box_tests ∙ rw (le-leb 1 (get_or b p 0) low, le-leb (get_or b p 0) boxes high, lt-leb (get_or b (p + 1) 0) 1 h))
-
-      module _ (flag : get_or b (p + 1) 0 ≤ 1) where
-        pub far_picture : next ≤ picture → false ≡ box_sound boxes (numbers_in b) (box_format.read b p)
-        far_picture h = sym (box_tests ∙ rw (le-leb 1 (get_or b p 0) low, le-leb (get_or b p 0) boxes high, le-leb (get_or b (p + 1) 0) 1 flag, le-ltb picture next h))
-
-        pub all_passed : picture < next → true ≡ box_sound boxes (numbers_in b) (box_format.read b p)
-        all_passed h = sym (box_tests ∙ rw (le-leb 1 (get_or b p 0) low, le-leb (get_or b p 0) boxes high, le-leb (get_or b (p + 1) 0) 1 flag, lt-ltb picture next h))
+  pub box_told : {r : Bool} → between 1 boxes (get_or b p 0) ≡ true → r ≡ both (leb (get_or b (p + 1) 0) 1) (ltb picture next) → r ≡ box_sound boxes (numbers_in b) (box_format.read b p)
+  box_told h t = t ∙ sym (box_tests ∙ rw h)
 
 -- the others are zeros
 pub others_blank : (b : List ℕ) (p k : ℕ) → k ≤ most_boxes → p + most_boxes * box_size ≤ length b

@@ -1,8 +1,7 @@
 -- A film and the shelf by their bytes; a test of each film.
 -- Assumes nothing.
-use Prim.Native.Nat.{ℕ, zero, suc, ◌+◌, ◌*◌, ◌-◌, ◌<◌, ◌≤◌}
+use Prim.Native.Nat.{ℕ, zero, suc, ◌+◌, ◌*◌, ◌-◌, ◌≤◌}
 use mathlib.Core.Path.{◌≡◌, refl, sym, ap, ◌∙◌}
-use mathlib.Core.Bool as bool
 use mathlib.Core.Bool.{Bool, true, false}
 use mathlib.Core.List.{List, [], ◌∷◌}
 use native.Mathlib.Omega.{arith}
@@ -13,17 +12,14 @@ use Rattle.choice.proofs.Picks.{both_assoc}
 use Rattle.octets.specs.Octets.{part}
 use Rattle.fields.specs.Format.{array}
 use Rattle.rules.specs.declared.Session.{Session}
-use Rattle.rules.specs.declared.Film.{Film}
 use Rattle.rules.specs.Bounds.{most_films, most_boxes}
 use Rattle.rules.specs.Lists.{every}
-use Rattle.rules.specs.Layout.{film_size, records_size, serial_format, picture_format, name_format, layout_format, box_format, film_format, shelf_format}
+use Rattle.rules.specs.Layout.{film_size, records_size, serial_format, name_format, layout_format, box_format, film_format, shelf_format}
 use Rattle.rules.specs.Records.{box_count, boxes_of, films_of, no_session, is_live}
 use Rattle.rules.specs.Sound.{all, zeros, name_sound, layout_sound, box_sound, box_blank, film_blank, film_sound, has_session, shelf_sound}
 use Rattle.records.specs.Places.{shelf_place, queue_place, numbers_in, session_in, shelf_in}
 use Rattle.records.proofs.Blank.{films_blank}
 use Rattle.distinct.specs.Films.{film_place, films_in}
-use Rattle.distinct.proofs.InPlace.{film_places}
-use Rattle.distinct.proofs.Arrays.{read_on, read_not, read_end}
 use Rattle.films.specs.Fit.{boxes_fit}
 
 -- a film's tests, by what was read of it
@@ -45,21 +41,6 @@ film_told b p first count serial e d g t =
     t ∙ sym (rw (e, d, g) (ap (λ (t : Bool). both (name_sound n f.name) (both (layout_sound f.layout) (both (leb f.orientation 1) (both (leb f.magnification 3) (both (leb 1 f.first.0) (both (leb (f.first.0 + box_count f.layout) n.serial) t))))))
     (both_assoc (every (box_sound (box_count f.layout) n) (take (box_count f.layout) f.boxes)) (every box_blank (drop (box_count f.layout) f.boxes)) true)))
 
--- a test of each film
-module _ (test : Film → Bool) (b : List ℕ) (n i : ℕ) where
-  module _ (p : ℕ) (at : p ≡ film_place i) (l : i < n) (h : n ≤ most_films) (told : Bool) (e : told ≡ test (film_format.read b p)) where
-    pub film_on : told ≡ true → every test (drop i (films_in b n)) ≡ every test (drop (i + 1) (films_in b n))
-    unfolding shelf_format film_format name_format serial_format layout_format box_format picture_format
-    film_on = read_on film_format b (shelf_place + 1) most_films n i test (film_places b) p at l h told e
-
-    pub film_not : told ≡ false → every test (drop i (films_in b n)) ≡ false
-    unfolding shelf_format film_format name_format serial_format layout_format box_format picture_format
-    film_not = read_not film_format b (shelf_place + 1) most_films n i test (film_places b) p at l h told e
-
-  pub film_end : n ≤ i → every test (drop i (films_in b n)) ≡ true
-  unfolding shelf_format
-  film_end = read_end film_format b (shelf_place + 1) most_films n i test
-
 -- there is no place for a session but the first
 pub elsewhere : (s : Session) (i : ℕ) → (i ≡ 0 → ⊥) → false ≡ is_live (get_or (s ∷ []) i no_session)
 elsewhere s zero h = absurd (h refl)
@@ -69,11 +50,11 @@ pub there : (s : Session) (i : ℕ) (t : Bool) → i ≡ 0 → eqb s.live 0 ≡ 
 there s i t e d = rw (e, d)
 
 -- the shelf's tests
-pub shelf_told : (b : List ℕ) {r : Bool} → (let n = numbers_in b in let sessions = session_in b ∷ [] in let count = get_or b shelf_place 0 in
+pub shelf_told : (b : List ℕ) (count : ℕ) {r : Bool} → count ≡ get_or b shelf_place 0 → (let n = numbers_in b in let sessions = session_in b ∷ [] in
     r ≡ all (leb count most_films ∷ every (has_session sessions) (films_in b count) ∷ every (film_sound n) (films_in b count) ∷ every film_blank (drop count (shelf_in b).films) ∷ [])
     → r ≡ shelf_sound n sessions (shelf_in b))
 unfolding shelf_sound films_of shelf_format
-shelf_told b t = t
+shelf_told b count e t = t ∙ rw e
 
 -- the places behind the films are zeros
 pub rest_blank : (b : List ℕ) (k : ℕ) → k ≤ most_films → records_size ≤ length b → every film_blank (drop k (shelf_in b).films) ≡ zeros (part b (film_place k) queue_place)

@@ -6,14 +6,13 @@ use mathlib.Core.Bool.{Bool, true, false}
 use mathlib.Core.List.{List}
 use native.Mathlib.Omega.{arith}
 use lib.Dec.{ltb}
-use lib.ListN.{length, get_or, set, replicate, length-set, get_or-replicate}
+use lib.ListN.{length, get_or, set, replicate, length-set, length-replicate, get_or-replicate}
 use lib.Seq.{get_or-set_same, get_or-set_other}
 use borrow.Author.Tests.{ltb-true, ltb-false}
+use Rattle.std.specs.Prelude.{Some, None, Ok, Err}
 use Rattle.choice.proofs.Picks.{both_true}
 use Rattle.headers.specs.declared.Scope.{Scope}
-use Rattle.headers.specs.declared.Close.TheVariants.{Here, Not}
 use Rattle.headers.specs.Header.{tag_at, head_at, close_at}
-use Rattle.elements.specs.declared.Read.TheVariants.{Past, Refused}
 use Rattle.elements.specs.declared.Stop.{Stop}
 use Rattle.elements.specs.declared.Found.{Found}
 use Rattle.elements.specs.declared.Found.TheVariants.{Missing}
@@ -50,18 +49,18 @@ find_from s scope at floor tag = among s scope.syntax scope.inside.stop tag (ele
 -- before a place the first k tags are told, and the others stand behind it, where they stand
 pub record Gathering (s : List ℕ) (scope : Scope) (tags : List ℕ) (n : ℕ) (founds : List Found) (at floor k : ℕ) : Type 0 where
   pub within : at ≤ scope.inside.stop
-  pub all : length founds ≡ 9
+  pub all : length founds ≡ n
   pub told : Gathered s scope tags k founds
   pub ahead : (i : ℕ) → k ≤ i → i < n → (get_or founds i Missing ≡ Missing) × (find_at s scope (get_or tags i 0) ≡ find_from s scope at floor (get_or tags i 0))
 
-pub gathering_start : (s : List ℕ) (scope : Scope) (tags : List ℕ) (n : ℕ) → n ≤ 9 → scope.inside.from ≤ scope.inside.stop → Gathering s scope tags n (replicate 9 Missing) scope.inside.from 0 0
+pub gathering_start : (s : List ℕ) (scope : Scope) (tags : List ℕ) (n : ℕ) → scope.inside.from ≤ scope.inside.stop → Gathering s scope tags n (replicate n Missing) scope.inside.from 0 0
 unfolding find_at
-gathering_start s scope tags n l h =
+gathering_start s scope tags n h =
     record {
       within = h;
-      all = refl;
+      all = length-replicate n Missing;
       told = λ i f. absurd (omega arith);
-      ahead = λ i f g. (get_or-replicate 9 i Missing Missing (omega arith), refl);
+      ahead = λ i f g. (get_or-replicate n i Missing Missing (omega arith), refl);
     }
 
 module _ (s : List ℕ) (scope : Scope) (tags : List ℕ) (n : ℕ) (founds : List Found) (at floor k : ℕ) (g : Gathering s scope tags n founds at floor k) where
@@ -72,14 +71,14 @@ module _ (s : List ℕ) (scope : Scope) (tags : List ℕ) (n : ℕ) (founds : Li
   pub all_told : n ≤ k → Gathered s scope tags n founds
   all_told h i l = g.told i (omega arith)
 
-  pub at_the_end : {q : ℕ} → close_at s item_end scope.inside at ≡ Here q → Gathered s scope tags n founds
+  pub at_the_end : {q : ℕ} → close_at s item_end scope.inside at ≡ Some q → Gathered s scope tags n founds
   at_the_end e = none (λ tag. find_done s scope at g.within floor tag e)
 
-  module _ (c : close_at s item_end scope.inside at ≡ Not) where
+  module _ (c : close_at s item_end scope.inside at ≡ None) where
     pub too_short : scope.inside.stop - at < 8 → Gathered s scope tags n founds
     too_short h = none (λ tag. find_short s scope at g.within floor tag c h)
 
-    pub refused_here : {stop : Stop} → element_in s scope scope.inside.stop at floor ≡ Refused stop → Gathered s scope tags n founds
+    pub refused_here : {stop : Stop} → element_in s scope scope.inside.stop at floor ≡ Err stop → Gathered s scope tags n founds
     refused_here e = none (λ tag. find_refused s scope at g.within floor tag c e)
 
     module _ (before : k < n) (t : ℕ) (tag : t ≡ tag_at s at) where
@@ -94,7 +93,7 @@ module _ (s : List ℕ) (scope : Scope) (tags : List ℕ) (n : ℕ) (founds : Li
             ahead = λ i f l. g.ahead i (omega arith) l;
           }
 
-      module _ (rising : ascending tags n ≡ true) {q : ℕ} (e : element_in s scope scope.inside.stop at floor ≡ Past q) where
+      module _ (rising : ascending tags n ≡ true) {q : ℕ} (e : element_in s scope scope.inside.stop at floor ≡ Ok q) where
         pub past : (at + 8 ≤ q) × (q ≤ scope.inside.stop)
         past = element_past s scope.syntax scope.inside.stop at floor g.within scope.room e
 
@@ -116,9 +115,9 @@ module _ (s : List ℕ) (scope : Scope) (tags : List ℕ) (n : ℕ) (founds : Li
         is_found : {f : Found} → f ≡ gives (element_in s scope scope.inside.stop at floor) (head_at s scope.syntax scope.inside.stop at floor) → f ≡ found (head_at s scope.syntax scope.inside.stop at floor)
         is_found h = rw e at h
 
-        pub takes : t ≡ get_or tags k 0 → (f : Found) → f ≡ gives (element_in s scope scope.inside.stop at floor) (head_at s scope.syntax scope.inside.stop at floor) → k < 9
+        pub takes : t ≡ get_or tags k 0 → (f : Found) → f ≡ gives (element_in s scope scope.inside.stop at floor) (head_at s scope.syntax scope.inside.stop at floor)
             → Gathering s scope tags n (set founds k f) q (t + 1) (k + 1)
-        takes h f ef small =
+        takes h f ef =
             record {
               within = past.1;
               all = length-set founds k f ∙ g.all;

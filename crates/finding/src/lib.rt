@@ -8,15 +8,15 @@ ghost use Rattle.elements.specs.Find.{only, items_of, find_at, items_at};
 ghost use Rattle.finding.specs.Gives.{gives};
 ghost use Rattle.finding.specs.Gathered.{ascending, Gathered};
 
-use elements::{Found, ITEM_END, Items, Read, SEQUENCE_END, element, item, refused};
-use headers::{Close, Head, Scope, Syntax, closing, item_head, tag_at};
+use elements::{Found, ITEM_END, Items, SEQUENCE_END, Stop, element, item, refused};
+use headers::{Head, Scope, Syntax, closing, item_head, tag_at};
 use syntaxes::element_head;
 
 // What an element gives to the one who looks for its tag, and how it was read. A value is read with its header.
 #[derive(Clone, Copy)]
 struct Looked {
     found: Found,
-    read: Read,
+    read: Result<usize, Stop>,
 }
 
 fn given(s: &[u8], syntax: Syntax, room: usize, end: usize, at: usize, floor: usize) -> Looked
@@ -24,31 +24,21 @@ fn given(s: &[u8], syntax: Syntax, room: usize, end: usize, at: usize, floor: us
     ensures { (result.found ≡ gives (element_at s.now syntax room end at floor) (head_at s.now syntax end at floor)) × (result.read ≡ element_at s.now syntax room end at floor) }
 {
     match element_head(s, syntax, end, at, floor) {
-        Head::Fault(n) => {
-            let reading = refused(n, at, room);
-            let read = reading.read;
-            Looked {
-                found: Found::Missing,
-                read,
-            }
-        }
+        Head::Fault(n) => Looked {
+            found: Found::Missing,
+            read: refused(n, at, room).read,
+        },
         Head::Value(part) => Looked {
             found: Found::Value(part),
-            read: Read::Past(part.stop),
+            read: Ok(part.stop),
         },
         Head::Nest(inside) => {
-            let reading = element(s, syntax, room, end, at, floor);
-            let read = reading.read;
-            match read {
-                Read::Past(q) => Looked {
-                    found: Found::Sequence(inside),
-                    read: Read::Past(q),
-                },
-                Read::Refused(stop) => Looked {
-                    found: Found::Missing,
-                    read: Read::Refused(stop),
-                },
-            }
+            let read = element(s, syntax, room, end, at, floor).read;
+            let found = match read {
+                Ok(_) => Found::Sequence(inside),
+                Err(_) => Found::Missing,
+            };
+            Looked { found, read }
         }
     }
 }
@@ -63,8 +53,7 @@ pub fn find(s: &[u8], scope: Scope, tag: usize) -> Found
     let mut p = inside.from;
     let mut floor = 0;
     loop {
-        let close = closing(s, ITEM_END, inside, p);
-        if let Close::Here(_) = close {
+        if let Some(_) = closing(s, ITEM_END, inside, p) {
             return Found::Missing;
         }
         if inside.stop - p < 8 {
@@ -75,38 +64,30 @@ pub fn find(s: &[u8], scope: Scope, tag: usize) -> Found
             return Found::Missing;
         }
         if t == tag {
-            let here = given(s, syntax, scope.room, inside.stop, p, floor);
-            let found = here.found;
-            return found;
+            return given(s, syntax, scope.room, inside.stop, p, floor).found;
         }
-        let reading = element(s, syntax, scope.room, inside.stop, p, floor);
-        let read = reading.read;
-        match read {
-            Read::Past(q) => {
-                floor = t + 1;
-                p = q;
-            }
-            Read::Refused(_) => {
-                return Found::Missing;
-            }
-        }
+        let Ok(q) = element(s, syntax, scope.room, inside.stop, p, floor).read else {
+            return Found::Missing;
+        };
+        floor = t + 1;
+        p = q;
     }
 }
 
-// What a list holds under each of the first n tags, by one walk that stops behind the last of them.
-pub fn gathered(s: &[u8], scope: Scope, tags: [usize; 9], n: usize) -> [Found; 9]
-    requires { (scope.inside.from ≤ scope.inside.stop) × (scope.inside.stop ≤ length s.now) × (n ≤ 9) × (ascending tags n ≡ true) }
-    ensures { Gathered s.now scope tags n result }
+// What a list holds under each of the tags, by one walk that stops behind the last of them.
+pub fn gathered<const N: usize>(s: &[u8], scope: Scope, tags: [usize; N]) -> [Found; N]
+    requires { (scope.inside.from ≤ scope.inside.stop) × (scope.inside.stop ≤ length s.now) × (ascending tags N ≡ true) }
+    ensures { Gathered s.now scope tags.entry N result }
 {
     let syntax = scope.syntax;
     let inside = scope.inside;
-    let mut founds = [Found::Missing; 9];
+    let mut founds = [Found::Missing; N];
     let mut p = inside.from;
     let mut floor = 0;
     let mut k = 0;
-    while k < n {
-        let close = closing(s, ITEM_END, inside, p);
-        if let Close::Here(_) = close {
+    // k moves on where a tag was found or passed by, and not at each turn
+    while k < N {
+        if let Some(_) = closing(s, ITEM_END, inside, p) {
             return founds;
         }
         if inside.stop - p < 8 {
@@ -118,32 +99,20 @@ pub fn gathered(s: &[u8], scope: Scope, tags: [usize; 9], n: usize) -> [Found; 9
         if sought < t {
             k += 1;
         } else if t < sought {
-            let reading = element(s, syntax, scope.room, inside.stop, p, floor);
-            let read = reading.read;
-            match read {
-                Read::Past(q) => {
-                    floor = above;
-                    p = q;
-                }
-                Read::Refused(_) => {
-                    return founds;
-                }
-            }
+            let Ok(q) = element(s, syntax, scope.room, inside.stop, p, floor).read else {
+                return founds;
+            };
+            floor = above;
+            p = q;
         } else {
             let here = given(s, syntax, scope.room, inside.stop, p, floor);
-            let found = here.found;
-            let read = here.read;
-            match read {
-                Read::Past(q) => {
-                    founds[k] = found;
-                    k += 1;
-                    floor = above;
-                    p = q;
-                }
-                Read::Refused(_) => {
-                    return founds;
-                }
-            }
+            let Ok(q) = here.read else {
+                return founds;
+            };
+            founds[k] = here.found;
+            k += 1;
+            floor = above;
+            p = q;
         }
     }
     founds
@@ -153,9 +122,8 @@ fn only_list(head: Head) -> Items
     ensures { result ≡ only head }
 {
     match head {
-        Head::Fault(_) => Items::Empty,
-        Head::Value(_) => Items::Empty,
         Head::Nest(inside) => Items::One(inside),
+        _ => Items::Empty,
     }
 }
 
@@ -169,21 +137,14 @@ fn count_items(s: &[u8], scope: Scope) -> usize
     let mut p = inside.from;
     let mut count = 0;
     loop {
-        let close = closing(s, SEQUENCE_END, inside, p);
-        if let Close::Here(_) = close {
+        if let Some(_) = closing(s, SEQUENCE_END, inside, p) {
             return count;
         }
-        let reading = item(s, syntax, scope.room, inside.stop, p);
-        let read = reading.read;
-        match read {
-            Read::Past(q) => {
-                count += 1;
-                p = q;
-            }
-            Read::Refused(_) => {
-                return count;
-            }
-        }
+        let Ok(q) = item(s, syntax, scope.room, inside.stop, p).read else {
+            return count;
+        };
+        count += 1;
+        p = q;
     }
 }
 
@@ -193,12 +154,9 @@ pub fn items_in(s: &[u8], scope: Scope) -> Items
     ensures { result ≡ items_at s.now scope }
 {
     let inside = scope.inside;
-    let count = count_items(s, scope);
-    if count == 0 {
-        return Items::Empty;
+    match count_items(s, scope) {
+        0 => Items::Empty,
+        1 => only_list(item_head(s, inside.stop, inside.from)),
+        count => Items::Several(count),
     }
-    if count == 1 {
-        return only_list(item_head(s, inside.stop, inside.from));
-    }
-    Items::Several(count)
 }

@@ -9,6 +9,7 @@ use lib.Dec.{ltb, eqb}
 use lib.ListN.{get_or, take}
 use lib.Seq.{get_or-take}
 use borrow.Author.Tests.{ltb-false, ltb-true, lt-ltb, le-ltb}
+use Rattle.std.specs.Prelude.{Option, Some, None}
 use Rattle.choice.specs.Pick.{pick, both, not}
 use Rattle.choice.proofs.Picks.{pick_cases, first_cases, first_kept}
 use Rattle.octets.specs.Octets.{number_at}
@@ -16,8 +17,6 @@ use Rattle.headers.specs.declared.Syntax.{Syntax}
 use Rattle.headers.specs.declared.Inside.{Inside}
 use Rattle.headers.specs.declared.Head.{Head}
 use Rattle.headers.specs.declared.Head.TheVariants.{Fault, Value, Nest}
-use Rattle.headers.specs.declared.Close.{Close}
-use Rattle.headers.specs.declared.Close.TheVariants.{Here, Not}
 use Rattle.tags.specs.Table.{SQ, undefined}
 use Rattle.headers.specs.Header.{tag_at, long_at, size_at, vr_at, length_at, vr_wrong, content, length_rules, length_head, element_rules, head_at, item_rules, item_head_at, close_at}
 use Rattle.headers.proofs.Within.{size_least}
@@ -139,9 +138,9 @@ abbrev pub InsideBefore : ℕ → Inside → Inside → Type 0
 InsideBefore p inside inside' = (inside'.loose ≡ inside.loose) × (inside.stop ≤ inside'.stop) × (inside.loose ≡ false → inside.stop < p → inside'.stop ≡ inside.stop)
 
 -- where a list closes, and where it goes on with a part that has a header
-abbrev pub CloseBefore : ℕ → ℕ → ℕ → Close → Close → Type 0
-CloseBefore p at stop (Here q) k = q ≤ p → k ≡ Here q
-CloseBefore p at stop Not k = at + 8 ≤ p → at + 8 ≤ stop → k ≡ Not
+abbrev pub CloseBefore : ℕ → ℕ → ℕ → Option ℕ → Option ℕ → Type 0
+CloseBefore p at stop (Some q) k = q ≤ p → k ≡ Some q
+CloseBefore p at stop None k = at + 8 ≤ p → at + 8 ≤ stop → k ≡ None
 
 module _ (p : ℕ) (s t : List ℕ) (agree : Agree p s t) where
   pub head_before : (syntax : Syntax) (end end' at floor : ℕ) → end ≤ end' → HeadBefore p end' (head_at s syntax end at floor) (head_at t syntax end' at floor)
@@ -168,5 +167,5 @@ module _ (p : ℕ) (s t : List ℕ) (agree : Agree p s t) where
       (λ e l m. let g = ltb-true at inside.stop e in rw (w.0, loose, lt-ltb at inside'.stop (omega arith)))
       (λ e l. let g = ltb-false at inside.stop e in rw (w.0, loose, w.2 loose (omega arith), e)))
     where
-      P : Close → Type 0
+      P : Option ℕ → Type 0
       P k = CloseBefore p at inside.stop k (close_at t mark inside' at)

@@ -7,6 +7,7 @@ use mathlib.Core.List.{List}
 use native.Mathlib.Omega.{arith}
 use lib.Dec.{ltb, eqb}
 use borrow.Author.Tests.{ltb-false, eq-eqb}
+use Rattle.std.specs.Prelude.{Option, Some, None}
 use Rattle.choice.specs.Pick.{pick, not}
 use Rattle.choice.proofs.Picks.{pick_cases, number_cases, both_second, both_first}
 use Rattle.octets.specs.Octets.{number_at}
@@ -15,14 +16,12 @@ use Rattle.headers.specs.declared.Syntax.TheVariants.{Implicit, Explicit}
 use Rattle.headers.specs.declared.Inside.{Inside}
 use Rattle.headers.specs.declared.Head.{Head}
 use Rattle.headers.specs.declared.Head.TheVariants.{Fault, Value, Nest}
-use Rattle.headers.specs.declared.Close.{Close}
-use Rattle.headers.specs.declared.Close.TheVariants.{Here, Not}
 use Rattle.tags.specs.Table.{SQ, undefined}
 use Rattle.headers.specs.Header.{tag_at, group_at, long_at, size_at, vr_at, length_at, content, length_rules, length_head, element_rules, head_at, item_rules, item_head_at, close_at}
 
-abbrev pub CloseIn : ℕ → ℕ → Close → Type 0
-CloseIn at end (Here q) = (at ≤ q) × (q ≤ end)
-CloseIn at end Not = Unit {0}
+abbrev pub CloseIn : ℕ → ℕ → Option ℕ → Type 0
+CloseIn at end (Some q) = (at ≤ q) × (q ≤ end)
+CloseIn at end None = Unit {0}
 
 -- a place with room behind it
 abbrev pub Fits : ℕ → ℕ → ℕ → ℕ → Type 0
@@ -49,9 +48,9 @@ close_in s mark inside at h =
     (λ _. pick_cases (CloseIn at inside.stop) (ltb at inside.stop) _ _ (λ _. tt) (λ _. (omega arith, h)))
 
 -- a list or a sequence of undefined length ends behind its delimiter
-abbrev pub Delimited : ℕ → Bool → Close → Type 0
-Delimited at loose (Here q) = at + 8 * pick loose 1 0 ≤ q
-Delimited at loose Not = Unit {0}
+abbrev pub Delimited : ℕ → Bool → Option ℕ → Type 0
+Delimited at loose (Some q) = at + 8 * pick loose 1 0 ≤ q
+Delimited at loose None = Unit {0}
 
 pub close_behind : (s : List ℕ) (mark : ℕ) (inside : Inside) (at : ℕ) → Delimited at inside.loose (close_at s mark inside at)
 unfolding close_at

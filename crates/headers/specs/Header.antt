@@ -1,5 +1,5 @@
 -- Elements (PS3.5), rules 5.1 to 5.8: what one header says, and the first rule that it breaks.
-use Rattle.std.specs.Prelude.{ℕ, ◌+◌, ◌-◌, ◌*◌, ◌%◌, Bool, true, false, List, [], ◌∷◌, ltb, eqb}
+use Rattle.std.specs.Prelude.{ℕ, ◌+◌, ◌-◌, ◌*◌, ◌%◌, Bool, true, false, List, [], ◌∷◌, ltb, eqb, Option, Some, None}
 use Rattle.choice.specs.Pick.{pick, both, either, not}
 use Rattle.choice.specs.Rules.{Rule, ◌⇒◌, first_or}
 use Rattle.octets.specs.Octets.{number_at}
@@ -8,8 +8,6 @@ use Rattle.headers.specs.declared.Syntax.TheVariants.{Implicit, Explicit}
 use Rattle.headers.specs.declared.Inside.{Inside}
 use Rattle.headers.specs.declared.Head.{Head}
 use Rattle.headers.specs.declared.Head.TheVariants.{Fault, Value, Nest}
-use Rattle.headers.specs.declared.Close.{Close}
-use Rattle.headers.specs.declared.Close.TheVariants.{Here, Not}
 use Rattle.tags.specs.Table.{SQ, form_of, undefined, implicit_vr, differs}
 
 abbrev pub is_explicit : Syntax → Bool
@@ -108,11 +106,11 @@ unfoldable pub item_head_at : List ℕ → ℕ → ℕ → Head
 item_head_at s end at = first_or Fault (item_rules s end at) (length_head (at + 8) end SQ (number_at 4 s (at + 4)))
 
 -- a list or a sequence ends at its stop; one of undefined length at its delimiter, whose length is 0
-unfoldable pub close_at : List ℕ → ℕ → Inside → ℕ → Close
+unfoldable pub close_at : List ℕ → ℕ → Inside → ℕ → Option ℕ
 close_at s mark inside at =
     pick inside.loose
-    (pick (ltb (inside.stop - at) 8) Not
+    (pick (ltb (inside.stop - at) 8) None
     (pick (eqb (tag_at s at) mark)
-    (pick (eqb (number_at 4 s (at + 4)) 0) (Here (at + 8)) Not)
-    Not))
-    (pick (ltb at inside.stop) Not (Here at))
+    (pick (eqb (number_at 4 s (at + 4)) 0) (Some (at + 8)) None)
+    None))
+    (pick (ltb at inside.stop) None (Some at))

@@ -38,7 +38,8 @@ pub struct Scope {
     pub inside: Inside,
 }
 
-// What a header says: the refusal that it earns, a value, or a sequence or an item that holds more.
+// What a header says: the refusal that it earns, a value, or a sequence or an item that holds more. A refusal is a number
+// as the book's rules number it, and the report shows that number.
 #[derive(Clone, Copy)]
 pub enum Head {
     Fault(usize),
@@ -46,14 +47,7 @@ pub enum Head {
     Nest(Inside),
 }
 
-// Whether a list or a sequence ends here, and the place after it.
-#[derive(Clone, Copy)]
-pub enum Close {
-    Here(usize),
-    Not,
-}
-
-// The syntax of a number: 2 is explicit VR.
+// The syntax of a number: 2 is explicit VR. No conversion by From: a number is a syntax only in the records and at C.
 pub fn syntax_of(number: u8) -> Syntax
     ensures { result ≡ syntax_of number }
 {
@@ -70,27 +64,21 @@ pub fn tag_at(s: &[u8], at: usize) -> usize
     65536 * u16_at(s, at) + u16_at(s, at + 2)
 }
 
-// Where a list ends: at its stop if its length is defined, else at the delimiter `mark`.
-pub fn closing(s: &[u8], mark: usize, inside: Inside, at: usize) -> Close
+// The place after a list or a sequence that ends here: at its stop if its length is defined, else at the delimiter `mark`.
+pub fn closing(s: &[u8], mark: usize, inside: Inside, at: usize) -> Option<usize>
     requires { (at ≤ inside.stop) × (inside.stop ≤ length s.now) }
     ensures { result ≡ close_at s.now mark inside at }
 {
     if inside.loose {
-        if inside.stop - at < 8 {
-            return Close::Not;
+        if inside.stop - at < 8 || tag_at(s, at) != mark || u32_at(s, at + 4) != 0 {
+            return None;
         }
-        if tag_at(s, at) != mark {
-            return Close::Not;
-        }
-        if u32_at(s, at + 4) != 0 {
-            return Close::Not;
-        }
-        return Close::Here(at + 8);
+        return Some(at + 8);
     }
     if at < inside.stop {
-        return Close::Not;
+        return None;
     }
-    Close::Here(at)
+    Some(at)
 }
 
 // What is behind a header, by its VR and length: refusals 5, 2 and 1.

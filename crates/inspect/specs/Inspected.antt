@@ -1,11 +1,9 @@
 -- What the exported call answers, and leaves in the buffer for place, depth and headers.
-use Rattle.std.specs.Prelude.{ℕ, List, ltb, leb, length}
+use Rattle.std.specs.Prelude.{ℕ, List, ltb, leb, length, Result, Ok, Err}
 use Rattle.choice.specs.Pick.{pick, both}
 use Rattle.fields.specs.Format.{write, number, ◌then◌}
 use Rattle.headers.specs.Header.{syntax_of}
 use Rattle.elements.specs.declared.Stop.{Stop}
-use Rattle.elements.specs.declared.Read.{Read}
-use Rattle.elements.specs.declared.Read.TheVariants.{Past, Refused}
 use Rattle.elements.specs.Reader.{data_set}
 use Rattle.elements.specs.Passed.{headers_passed}
 
@@ -25,9 +23,9 @@ unfoldable pub headers_laid : List ℕ → ℕ → List ℕ
 headers_laid b n = write (number 4) n b 8
 
 -- 0 where all was read, else the refusal, and where the reading stopped
-abbrev pub told : List ℕ → Read → Inspected
-told b (Past q) = numbered 0 b
-told b (Refused stop) = numbered stop.number (stop_laid b stop)
+abbrev pub told : List ℕ → Result ℕ Stop → Inspected
+told b (Ok q) = numbered 0 b
+told b (Err stop) = numbered stop.number (stop_laid b stop)
 
 -- for the bytes in implicit VR (1) or explicit VR (2); 8 for another syntax, 9 for a buffer of less than 12 bytes
 unfoldable pub inspected : List ℕ → ℕ → List ℕ → Inspected

@@ -4,7 +4,7 @@
 ghost use Rattle.std.specs.Prelude.{◌≤◌, ◌≡◌, length};
 ghost use Rattle.inspect.specs.Inspected.{stop_laid, inspected};
 
-use elements::{Read, Stop};
+use elements::Stop;
 
 fn put_stop(out: &mut [u8], stop: Stop)
     requires { 8 ≤ length out.old }
@@ -17,8 +17,7 @@ fn put_stop(out: &mut [u8], stop: Stop)
 // Syntax 1 is implicit VR, 2 explicit. Answers 0 where the bytes are read whole, 1 to 7 for the refusal, 8 for another syntax, 9 for
 // a buffer of less than 12 bytes. With 0 to 7 it writes how many headers were passed, and with 1 to 7 before that the place and the
 // depth at which the reading stopped, in four bytes each.
-#[unsafe(no_mangle)]
-pub extern "C" fn inspect_data_set(s: &[u8], syntax: u32, reading: &mut [u8]) -> u32
+pub fn inspect_data_set(s: &[u8], syntax: u32, reading: &mut [u8]) -> u32
     ensures { (result ≡ (inspected s.now syntax reading.old).answer) × (reading.new ≡ (inspected s.now syntax reading.old).reading) }
 {
     if reading.len() < 12 {
@@ -34,8 +33,8 @@ pub extern "C" fn inspect_data_set(s: &[u8], syntax: u32, reading: &mut [u8]) ->
     fields::put_number(reading, 8, 4, told.passed as u64);
     let read = told.read;
     match read {
-        Read::Past(_) => 0,
-        Read::Refused(stop) => {
+        Ok(_) => 0,
+        Err(stop) => {
             put_stop(reading, stop);
             stop.number as u32
         }

@@ -1,5 +1,6 @@
 -- What the functions rest on.
 mod Classes
+mod Front
 mod InPlace
 mod Naming
 mod Places

@@ -5,8 +5,7 @@ ghost use Rattle.std.specs.Prelude.{◌≡◌, true, ◌+◌, ◌≤◌, ◌<◌
 ghost use Rattle.octets.specs.Octets.{same};
 ghost use Rattle.uids.specs.Uids.{begins_with};
 ghost use Rattle.rules.specs.Bounds.{most_films, none_left};
-ghost use Rattle.rules.specs.Lists.{place_of};
-ghost use Rattle.rules.specs.Layout.{numbers_size, name_size, film_size, records_size, name_format, film_format};
+ghost use Rattle.rules.specs.Layout.{records_size, name_size, film_size, name_format, film_format};
 ghost use Rattle.rules.specs.Records.{root_of, films_of, film_named, named, session_named, uid_of};
 ghost use Rattle.rules.specs.Commands.{uid_at};
 ghost use Rattle.rules.specs.declared.Class.TheVariants.{Verification, Boxes};
@@ -14,22 +13,16 @@ ghost use Rattle.rules.specs.Checks.{class_of, offers, class_part};
 ghost use Rattle.rules.specs.Sound.{core_sound};
 ghost use Rattle.records.specs.Places.{numbers_in, session_in, shelf_in, core_in};
 ghost use Rattle.commands.specs.Within.{PartIn};
+ghost use Rattle.instances.specs.Search.{first_place};
 ghost use Rattle.instances.specs.There.{There};
 ghost use Rattle.instances.specs.Serials.{told, MadeOf, box_serial};
 
 use headers::Part;
-use records::{AT_FILMS, AT_SESSIONS, AT_SHELF, FILM, FILM_FIRST, FILM_LAYOUT, SERIAL};
+use records::{AT_FILMS, AT_SESSIONS, AT_SHELF, FILM, FILM_FIRST, FILM_LAYOUT, Records, SERIAL};
 use rules::{Class, Instance, Operation, TEXT};
 
-fn wide(b: u8) -> usize
-    ensures { (result ≡ b) × (result < 256) }
-{
-    b as usize
-}
-
 // Whether a UID begins with the root and a dot.
-pub fn is_rooted(b: &[u8], uid: &[u8]) -> bool
-    requires { numbers_size ≤ length b.now }
+pub fn is_rooted(b: &Records, uid: &[u8]) -> bool
     ensures { result ≡ begins_with (root_of (numbers_in b.now)) uid.now }
 {
     uids::begins_with(records::root_in(b), uid)
@@ -57,26 +50,14 @@ pub fn class_of(uid: &[u8]) -> Class
 fn is_echo(operation: Operation) -> bool
     ensures { result ≡ offers Verification operation }
 {
-    match operation {
-        Operation::Echo(_) => true,
-        Operation::Create(_) => false,
-        Operation::Set(_) => false,
-        Operation::Act(_) => false,
-        Operation::Delete(_) => false,
-    }
+    matches!(operation, Operation::Echo(_))
 }
 
-// Image box: N-SET.
+// Image box: N-SET; a box goes with its film.
 fn is_set(operation: Operation) -> bool
     ensures { result ≡ offers Boxes operation }
 {
-    match operation {
-        Operation::Echo(_) => false,
-        Operation::Create(_) => false,
-        Operation::Set(_) => true,
-        Operation::Act(_) => false,
-        Operation::Delete(_) => false, // a box goes with its film
-    }
+    matches!(operation, Operation::Set(_))
 }
 
 // Session and film: the four N, all but C-ECHO.
@@ -97,17 +78,15 @@ fn number_told(s: &[u8]) -> usize
     ensures { (result ≡ told 0 s.now) × (result < none_left) }
 {
     let mut v = 0;
-    let mut i = 0;
-    while i < s.len() {
-        v = (10 * v + wide(s[i]) % 16) % 4294967296;
-        i += 1;
+    for d in s {
+        v = (10 * v + usize::from(*d) % 16) % 4294967296;
     }
     v
 }
 
-// The serial that a UID was made of, 0 where it was not made: with it the made UIDs are compared as numbers.
-fn made_serial(b: &[u8], uid: &[u8]) -> usize
-    requires { numbers_size ≤ length b.now }
+// The serial that a UID was made of, 0 where it was not made: with it the made UIDs are compared as numbers. An Option is no
+// plainer: 0 is no made name's serial, so that one comparison does.
+fn made_serial(b: &Records, uid: &[u8]) -> usize
     ensures { MadeOf (root_of (numbers_in b.now)) uid.now result }
 {
     let root = records::root_in(b);
@@ -122,9 +101,10 @@ fn made_serial(b: &[u8], uid: &[u8]) -> usize
     0
 }
 
-// Whether a UID, made of this serial if it was made, is the one that the name at a place stands for.
-fn is_name(b: &[u8], p: usize, serial: usize, uid: &[u8]) -> bool
-    requires { (numbers_size ≤ length b.now) × (p + name_size ≤ length b.now) × MadeOf (root_of (numbers_in b.now)) uid.now serial }
+// Whether a UID, made of this serial if it was made, is the one that the name at a place stands for. The records are fixed
+// bytes: a sent name has the serial 0.
+fn is_name(b: &Records, p: usize, serial: usize, uid: &[u8]) -> bool
+    requires { (p + name_size ≤ length b.now) × MadeOf (root_of (numbers_in b.now)) uid.now serial }
     ensures { result ≡ same uid.now (uid_of (numbers_in b.now) (name_format.read b.now p)) }
 {
     let made = octets::u32_at(b, p);
@@ -132,44 +112,34 @@ fn is_name(b: &[u8], p: usize, serial: usize, uid: &[u8]) -> bool
         let used = p + SERIAL;
         let text = used + 1;
         let end = text + TEXT;
-        return octets::same_bytes(uid, octets::front(&b[text..end], wide(b[used])));
+        return octets::same_bytes(uid, octets::front(&b[text..end], usize::from(b[used])));
     }
     made == serial
 }
 
 // Whether a UID is the one that the name at a place stands for.
-pub fn is_named_at(b: &[u8], p: usize, uid: &[u8]) -> bool
-    requires { (numbers_size ≤ length b.now) × (p + name_size ≤ length b.now) }
+pub fn is_named_at(b: &Records, p: usize, uid: &[u8]) -> bool
+    requires { p + name_size ≤ length b.now }
     ensures { result ≡ same uid.now (uid_of (numbers_in b.now) (name_format.read b.now p)) }
 {
     is_name(b, p, made_serial(b, uid), uid)
 }
 
 // Whether it is that of the session at the only place.
-fn is_session(b: &[u8], serial: usize, uid: &[u8]) -> bool
-    requires { (records_size ≤ length b.now) × MadeOf (root_of (numbers_in b.now)) uid.now serial }
+fn is_session(b: &Records, serial: usize, uid: &[u8]) -> bool
+    requires { MadeOf (root_of (numbers_in b.now)) uid.now serial }
     ensures { result ≡ session_named (numbers_in b.now) uid.now (session_in b.now) }
 {
-    if b[AT_SESSIONS] == 0 {
-        return false;
-    }
-    is_name(b, AT_SESSIONS + 1, serial, uid)
+    b[AT_SESSIONS] != 0 && is_name(b, AT_SESSIONS + 1, serial, uid)
 }
 
-// The place of the film that a UID names; how many films there are where it names none.
-fn film_named(b: &[u8], serial: usize, uid: &[u8]) -> usize
-    requires { (records_size ≤ length b.now) × ((shelf_in b.now).count ≤ most_films) × MadeOf (root_of (numbers_in b.now)) uid.now serial }
-    ensures { result ≡ place_of (film_named (numbers_in b.now) uid.now) (films_of (shelf_in b.now)) }
+// The place of the film that a UID names.
+fn film_named(b: &Records, serial: usize, uid: &[u8]) -> Option<usize>
+    requires { ((shelf_in b.now).count ≤ most_films) × MadeOf (root_of (numbers_in b.now)) uid.now serial }
+    ensures { result ≡ first_place (film_named (numbers_in b.now) uid.now) (films_of (shelf_in b.now)) }
 {
-    let count = wide(b[AT_SHELF]);
-    let mut i = 0;
-    while i < count {
-        if is_name(b, AT_FILMS + i * FILM, serial, uid) {
-            return i;
-        }
-        i += 1;
-    }
-    i
+    let count = usize::from(b[AT_SHELF]);
+    (0..count).find(|&i| is_name(b, AT_FILMS + i * FILM, serial, uid))
 }
 
 // The serial of the first box of the film at a place.
@@ -186,50 +156,48 @@ fn has_box(b: &[u8], p: usize, serial: usize) -> bool
     ensures { result ≡ box_serial serial (film_format.read b.now p) }
 {
     let first = first_at(b, p);
-    if serial < first {
-        return false;
-    }
-    serial - first < layouts::box_count_at(b, p + FILM_LAYOUT) as usize
+    first <= serial && serial - first < layouts::box_count_at(b, p + FILM_LAYOUT) as usize
 }
 
-// The place of the film with the box of a serial; how many films there are where none has it.
-fn film_with_box(b: &[u8], serial: usize) -> usize
-    requires { (records_size ≤ length b.now) × ((shelf_in b.now).count ≤ most_films) }
-    ensures { result ≡ place_of (box_serial serial) (films_of (shelf_in b.now)) }
+// The place of the film with the box of a serial.
+fn film_with_box(b: &Records, serial: usize) -> Option<usize>
+    requires { (shelf_in b.now).count ≤ most_films }
+    ensures { result ≡ first_place (box_serial serial) (films_of (shelf_in b.now)) }
 {
-    let count = wide(b[AT_SHELF]);
-    let mut i = 0;
-    while i < count {
-        if has_box(b, AT_FILMS + i * FILM, serial) {
-            return i;
-        }
-        i += 1;
-    }
-    i
+    let count = usize::from(b[AT_SHELF]);
+    (0..count).find(|&i| has_box(b, AT_FILMS + i * FILM, serial))
 }
 
 // The instance that a UID names.
-pub fn named(b: &[u8], uid: &[u8]) -> Instance
-    requires { (records_size ≤ length b.now) × (core_sound (core_in b.now) ≡ true) }
+fn named_in(b: &Records, uid: &[u8]) -> Instance
+    requires { core_sound (core_in b.now) ≡ true }
     ensures { (result ≡ named (core_in b.now) uid.now) × There (core_in b.now) result }
 {
     let serial = made_serial(b, uid);
     if is_session(b, serial, uid) {
         return Instance::TheSession;
     }
-    let count = wide(b[AT_SHELF]);
-    let film = film_named(b, serial, uid);
-    if film < count {
+    if let Some(film) = film_named(b, serial, uid) {
         return Instance::TheFilm(film);
     }
-    let other = film_with_box(b, serial);
-    if count <= other {
+    let Some(film) = film_with_box(b, serial) else {
         return Instance::Nobody;
-    }
-    let first = first_at(b, AT_FILMS + other * FILM);
+    };
+    let first = first_at(b, AT_FILMS + film * FILM);
     Instance::TheBox {
-        film: other,
+        film,
         place: serial - first,
+    }
+}
+
+// The same over all that is lent, of which the records are the front.
+pub fn named(b: &[u8], uid: &[u8]) -> Instance
+    requires { (records_size ≤ length b.now) × (core_sound (core_in b.now) ≡ true) }
+    ensures { (result ≡ named (core_in b.now) uid.now) × There (core_in b.now) result }
+{
+    match b.first_chunk() {
+        Some(records) => named_in(records, uid),
+        None => Instance::Nobody,
     }
 }
 

@@ -6,12 +6,12 @@ use mathlib.Core.Bool.{Bool, true, false}
 use mathlib.Core.List.{List, [], ◌∷◌, ◌++◌}
 use native.Mathlib.Omega.{arith}
 use native.Mathlib.Numerals.{add-one}
-use lib.Dec.{eqb, leb}
-use lib.ListN.{length, get_or, take, drop, replicate, set, length-append, length-take, length-drop, drop_of_length-le}
-use lib.Seq.{append_snoc, set_at, take_all, take-suc, drop-cons}
-use borrow.Author.Tests.{eq-eqb, ne_eqb, le-leb, lt-leb, leb-true, eqb-true}
-use Rattle.choice.specs.Pick.{both, either}
-use Rattle.choice.proofs.Picks.{both_true, both_fails}
+use lib.Dec.{eqb, ltb, leb}
+use lib.ListN.{length, get_or, take, drop, replicate, set, length-append, length-take, length-drop}
+use lib.Seq.{append_snoc, set_at, take_all, take-suc}
+use borrow.Author.Tests.{eq-eqb, ne_eqb, leb-true, eqb-true, ltb-true, ltb-false}
+use Rattle.choice.specs.Pick.{pick, both, either, not}
+use Rattle.choice.proofs.Picks.{both_true, both_fails, both_swap}
 use Rattle.octets.specs.Octets.{same}
 use Rattle.octets.proofs.Same.{same_equal}
 use Rattle.rules.specs.Text.{chars}
@@ -22,30 +22,14 @@ use Rattle.rules.proofs.Formats.{listed_length}
 
 -- STANDARD.
 
-module _ (t : List ℕ) where
-  pub standard_short : (length t ≡ 12 → ⊥) → false ≡ standard t
-  unfolding standard
-  standard_short n =
-      rw (ne_eqb (length t) 12 n) (sym (both_fails (same (take 9 t) (chars "STANDARD\\"))))
-
-  module _ (l : length t ≡ 12) where
-    pub standard_other : same (take 9 t) (chars "STANDARD\\") ≡ false → false ≡ standard t
-    unfolding standard
-    standard_other h = rw h
-
-    module _ (h : same (take 9 t) (chars "STANDARD\\") ≡ true) where
-      pub standard_columns : one_to_six (get_or t 9 0) ≡ false → false ≡ standard t
-      unfolding standard
-      standard_columns k = rw (h, eq-eqb (length t) 12 l, k)
-
-      module _ (k : one_to_six (get_or t 9 0) ≡ true) where
-        pub standard_comma : (get_or t 10 0 ≡ 0x2C → ⊥) → false ≡ standard t
-        unfolding standard
-        standard_comma n = rw (h, eq-eqb (length t) 12 l, k, ne_eqb (get_or t 10 0) 0x2C n)
-
-        pub standard_rows : get_or t 10 0 ≡ 0x2C → one_to_six (get_or t 11 0) ≡ standard t
-        unfolding standard
-        standard_rows n = rw (h, eq-eqb (length t) 12 l, k, eq-eqb (get_or t 10 0) 0x2C n)
+-- the tests, length first
+pub standard_tests : (t : List ℕ) →
+    standard t
+    ≡ both (eqb (length t) 12)
+    (both (same (take 9 t) (chars "STANDARD\\"))
+    (both (one_to_six (get_or t 9 0)) (both (eqb (get_or t 10 0) 0x2C) (one_to_six (get_or t 11 0)))))
+unfolding standard
+standard_tests t = both_swap (same (take 9 t) (chars "STANDARD\\")) (eqb (length t) 12) _
 
 -- what a layout's text has
 pub standard_has : (t : List ℕ) → standard t ≡ true → (length t ≡ 12) × ((48 < get_or t 9 0) × (get_or t 9 0 ≤ 54)) × ((48 < get_or t 11 0) × (get_or t 11 0 ≤ 54))
@@ -63,67 +47,43 @@ standard_has t e =
 
 -- Numbers with a comma between two.
 
-first_wrong : (d : ℕ) (ds : List ℕ) → one_to_six d ≡ false → listed (d ∷ ds) ≡ false
+pub listed_none : (s : List ℕ) → length s ≡ 0 → false ≡ listed s
 unfolding listed
-first_wrong d [] e = e
-first_wrong d (c ∷ ds) e = rw e
+listed_none [] h = refl
+listed_none (d ∷ s) h = absurd (omega (arith, h))
 
-module _ (s : List ℕ) (i : ℕ) where
-  pub listed_end : length s ≤ i → listed (drop i s) ≡ false
-  unfolding listed
-  listed_end h = rw (drop_of_length-le s h)
+pub listed_last : (s : List ℕ) → length s ≡ 1 → one_to_six (get_or s 0 0) ≡ listed s
+unfolding listed
+listed_last [] h = absurd (omega (arith, h))
+listed_last (d ∷ []) h = refl
+listed_last (d ∷ (c ∷ s)) h = absurd (omega (arith, h))
 
-  module _ (h : i < length s) where
-    pub listed_wrong : one_to_six (get_or s i 0) ≡ false → listed (drop i s) ≡ false
-    listed_wrong e = rw (drop-cons s i 0 h) (first_wrong (get_or s i 0) (drop (suc i) s) e)
+pub listed_on : (s : List ℕ) → 2 ≤ length s → get_or s 1 0 ≡ 0x2C → both (one_to_six (get_or s 0 0)) (listed (drop 2 s)) ≡ listed s
+unfolding listed
+listed_on [] h e = absurd (omega arith)
+listed_on (d ∷ []) h e = absurd (omega arith)
+listed_on (d ∷ (c ∷ s)) h e = rw (eq-eqb c 0x2C e)
 
-    module _ (e : one_to_six (get_or s i 0) ≡ true) where
-      pub listed_last : i + 1 ≡ length s → listed (drop i s) ≡ true
-      unfolding listed
-      listed_last l =
-          let n : length s ≤ suc i = omega arith in
-          rw (drop-cons s i 0 h, drop_of_length-le s n) e
-
-      module _ (l : i + 1 < length s) where
-        comma : listed (drop i s) ≡ both (eqb (get_or s (i + 1) 0) 0x2C) (listed (drop (i + 1 + 1) s))
-        unfolding listed
-        comma = rw (drop-cons s i 0 h, ← (add-one i), drop-cons s (i + 1) 0 l, ← (add-one (i + 1)), e)
-
-        pub listed_apart : (get_or s (i + 1) 0 ≡ 0x2C → ⊥) → listed (drop i s) ≡ false
-        listed_apart n = comma ∙ rw (ne_eqb (get_or s (i + 1) 0) 0x2C n)
-
-        pub listed_on : get_or s (i + 1) 0 ≡ 0x2C → listed (drop i s) ≡ listed (drop (i + 1 + 1) s)
-        listed_on n = comma ∙ rw (eq-eqb (get_or s (i + 1) 0) 0x2C n)
+pub listed_apart : (s : List ℕ) → 2 ≤ length s → (get_or s 1 0 ≡ 0x2C → ⊥) → false ≡ listed s
+unfolding listed
+listed_apart [] h n = absurd (omega arith)
+listed_apart (d ∷ []) h n = absurd (omega arith)
+listed_apart (d ∷ (c ∷ s)) h n = rw (ne_eqb c 0x2C n) (sym (both_fails (one_to_six d)))
 
 -- ROW and COL.
 
 abbrev begins : List ℕ → Bool
 begins t = either (same (take 4 t) (chars "ROW\\")) (same (take 4 t) (chars "COL\\"))
 
-module _ (t : List ℕ) where
-  pub uneven_short : length t < 4 → false ≡ uneven t
-  unfolding uneven listed
-  uneven_short h =
-      let l : length t ≤ 4 = omega arith in
-      rw (drop_of_length-le t l, both_fails (leb (length t) 15)) (sym (both_fails (begins t)))
+some_kind : (row col : Bool) → either row col ≡ not (eqb (pick row 1 (pick col 2 0)) 0)
+some_kind true col = refl
+some_kind false true = refl
+some_kind false false = refl
 
-  pub uneven_long : 15 < length t → false ≡ uneven t
-  unfolding uneven
-  uneven_long h = rw (lt-leb (length t) 15 h) (sym (both_fails (begins t)))
-
-  module _ (l : length t ≤ 15) where
-    pub uneven_row : same (take 4 t) (chars "ROW\\") ≡ true → listed (drop 4 t) ≡ uneven t
-    unfolding uneven
-    uneven_row r = rw (r, le-leb (length t) 15 l)
-
-    module _ (r : same (take 4 t) (chars "ROW\\") ≡ false) where
-      pub uneven_column : same (take 4 t) (chars "COL\\") ≡ true → listed (drop 4 t) ≡ uneven t
-      unfolding uneven
-      uneven_column c = rw (r, c, le-leb (length t) 15 l)
-
-      pub uneven_other : same (take 4 t) (chars "COL\\") ≡ false → false ≡ uneven t
-      unfolding uneven
-      uneven_other c = rw (r, c)
+-- the tests: one of the words, and what follows it
+pub uneven_tests : (t : List ℕ) → uneven t ≡ both (not (eqb (kind_in t) 0)) (both (leb (length t) 15) (listed (drop 4 t)))
+unfolding uneven kind_in
+uneven_tests t = ap (λ (k : Bool). both k (both (leb (length t) 15) (listed (drop 4 t)))) (some_kind (same (take 4 t) (chars "ROW\\")) (same (take 4 t) (chars "COL\\")))
 
 -- so there is a list, of few numbers
 pub uneven_has : (t : List ℕ) → uneven t ≡ true → (listed (drop 4 t) ≡ true) × (4 < length t) × (length t ≤ 15)
@@ -195,19 +155,14 @@ short_by s word true l e h = absurd (omega (arith, ap length (same_equal _ _ e),
 short_by s word false l e h = refl
 
 module _ (s : List ℕ) where
-  pub kind_short : length s < 4 → 0 ≡ kind_in s
+  kind_short : length s < 4 → 0 ≡ kind_in s
   unfolding chars kind_in
   kind_short h = rw (short_by s (chars "ROW\\") _ refl refl h, short_by s (chars "COL\\") _ refl refl h)
 
-  pub kind_row : same (take 4 s) (chars "ROW\\") ≡ true → 1 ≡ kind_in s
-  unfolding kind_in
-  kind_row r = rw r
-
-  module _ (r : same (take 4 s) (chars "ROW\\") ≡ false) where
-    pub kind_col_lem : same (take 4 s) (chars "COL\\") ≡ true → 2 ≡ kind_in s
-    unfolding kind_in
-    kind_col_lem c = rw (r, c)
-
-    pub kind_other : same (take 4 s) (chars "COL\\") ≡ false → 0 ≡ kind_in s
-    unfolding kind_in
-    kind_other c = rw (r, c)
+  -- so a text with one of the words has four
+  pub kind_long : (kind_in s ≡ 0 → ⊥) → 4 ≤ length s
+  kind_long n = turn (ltb (length s) 4) refl
+    where
+      turn : (t : Bool) → ltb (length s) 4 ≡ t → 4 ≤ length s
+      turn true e = absurd (n (sym (kind_short (ltb-true _ _ e))))
+      turn false e = ltb-false _ _ e

@@ -6,8 +6,8 @@ use mathlib.Core.List.{List, [], ◌∷◌}
 use native.Mathlib.Numerals.{add-one}
 use native.Mathlib.Omega.{arith}
 use lib.Dec.{ltb}
-use lib.ListN.{length, get_or, take, drop, length-take, drop_of_length-le}
-use lib.Seq.{drop-cons, get_or-take, take-nil}
+use lib.ListN.{length, get_or, take, drop, drop_of_length-le}
+use lib.Seq.{drop-cons, take-nil}
 use borrow.Author.Tests.{lt-ltb}
 use Rattle.choice.specs.Pick.{pick}
 use Rattle.fields.specs.Format.{byte, read_all}
@@ -15,34 +15,18 @@ use Rattle.rules.specs.Lists.{sum}
 use Rattle.rules.specs.Records.{box_count}
 use Rattle.rules.specs.Layout.{layout_format}
 
-module _ (xs : List ℕ) (k i : ℕ) where
-  short : i < length xs → i < k → i < length (take k xs)
-  short h l = rw (length-take) (omega arith)
-
-  pub sum_on : i < length xs → i < k → sum (drop i (take k xs)) ≡ get_or xs i 0 + sum (drop (i + 1) (take k xs))
-  unfolding sum
-  sum_on h l = rw (add-one i, drop-cons (take k xs) i 0 (short h l), get_or-take k xs i 0 l)
-
-  past : length (take k xs) ≤ i → sum (drop i (take k xs)) ≡ 0
-  unfolding sum
-  past h = rw (drop_of_length-le (take k xs) h)
-
-  pub sum_end : k ≤ i → sum (drop i (take k xs)) ≡ 0
-  sum_end h = past (rw (length-take) (omega arith))
-
-  pub sum_all : length xs ≤ i → sum (drop i (take k xs)) ≡ 0
-  sum_all h = past (rw (length-take) (omega arith))
-
 -- one number more
-pub sum_turn : (xs : List ℕ) (k i v x : ℕ) → i < length xs → i < k → x ≡ get_or xs i 0 → sum (take k xs) ≡ v + sum (drop i (take k xs))
-    → sum (take k xs) ≡ v + x + sum (drop (i + 1) (take k xs))
-sum_turn xs k i v x h l e d = let o = sum_on xs k i h l in omega arith
+pub sum_turn : (xs : List ℕ) (i v : ℕ) → i < length xs → sum xs ≡ v + sum (drop i xs) → sum xs ≡ v + get_or xs i 0 + sum (drop (i + 1) xs)
+unfolding sum
+sum_turn xs i v h d =
+    let e : sum (drop i xs) ≡ get_or xs i 0 + sum (drop (i + 1) xs) = rw (add-one i, drop-cons xs i 0 h) in
+    omega (arith, e)
 
-pub sum_done : (t v s : ℕ) → t ≡ v + s → s ≡ 0 → v ≡ t
-sum_done t v s d e = omega arith
-
-pub sum_start : (t : ℕ) → t ≡ 0 + t
-sum_start t = omega arith
+pub sum_done : (xs : List ℕ) (i v : ℕ) → length xs ≤ i → sum xs ≡ v + sum (drop i xs) → v ≡ sum xs
+unfolding sum
+sum_done xs i v h d =
+    let e : sum (drop i xs) ≡ 0 = rw (drop_of_length-le xs h) in
+    omega (arith, e)
 
 -- six numbers at once
 abbrev sixth : ℕ → ℕ → ℕ → ℕ

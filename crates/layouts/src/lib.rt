@@ -14,70 +14,39 @@ use rules::Layout;
 fn one_to_six(b: u8) -> bool
     ensures { result ≡ one_to_six b }
 {
-    if b < 49 {
-        return false;
-    }
-    b <= 54
+    matches!(b, b'1'..=b'6')
 }
 
 // Whether a text is STANDARD with columns and rows.
 fn is_standard(t: &[u8]) -> bool
     ensures { result ≡ standard t.now }
 {
-    if t.len() != 12 {
-        return false;
-    }
-    if !octets::same_bytes(&t[0..9], b"STANDARD\\") {
-        return false;
-    }
-    if !one_to_six(t[9]) {
-        return false;
-    }
-    if t[10] != b',' {
-        return false;
-    }
-    one_to_six(t[11])
+    t.len() == 12
+        && octets::same_bytes(&t[..9], b"STANDARD\\")
+        && one_to_six(t[9])
+        && t[10] == b','
+        && one_to_six(t[11])
 }
 
-// Whether a text is numbers with a comma between two.
+// Whether a text is numbers with a comma between two. What is behind the first comma is told by a call of itself: six deep at most.
 fn is_listed(s: &[u8]) -> bool
     ensures { result ≡ listed s.now }
 {
-    let mut i = 0;
-    while i < s.len() {
-        if !one_to_six(s[i]) {
-            return false;
-        }
-        i += 1;
-        if i == s.len() {
-            return true;
-        }
-        if s[i] != b',' {
-            return false;
-        }
-        i += 1;
+    match s {
+        [d] => one_to_six(*d),
+        [d, b',', rest @ ..] => one_to_six(*d) && is_listed(rest),
+        _ => false,
     }
-    false
 }
 
 // Whether a text is ROW or COL with its numbers.
 fn is_uneven(t: &[u8]) -> bool
     ensures { result ≡ uneven t.now }
 {
-    if t.len() < 4 {
+    if kind_in(t) == 0 {
         return false;
     }
-    if 15 < t.len() {
-        return false;
-    }
-    let word = &t[0..4];
-    if octets::same_bytes(word, b"ROW\\") {
-        return is_listed(&t[4..]);
-    }
-    if octets::same_bytes(word, b"COL\\") {
-        return is_listed(&t[4..]);
-    }
-    false
+    t.len() <= 15 && is_listed(&t[4..])
 }
 
 // So many lines of so many boxes.
@@ -85,13 +54,8 @@ fn even_counts(lines: u8, boxes: u8) -> [u8; 6]
     requires { lines ≤ 6 }
     ensures { result ≡ filled_to 6 0 (replicate lines boxes) }
 {
-    let n = lines as usize;
     let mut counts = [0; 6];
-    let mut i = 0;
-    while i < n {
-        counts[i] = boxes;
-        i += 1;
-    }
+    counts[..lines as usize].fill(boxes);
     counts
 }
 
@@ -101,22 +65,17 @@ fn listed_counts(s: &[u8]) -> [u8; 6]
     ensures { result ≡ filled_to 6 0 (numbers_in s.now) }
 {
     let mut counts = [0; 6];
-    let mut i = 0;
-    while 2 * i < s.len() {
-        counts[i] = s[2 * i] - 48;
-        i += 1;
+    for i in 0..s.len().div_ceil(2) {
+        counts[i] = s[2 * i] - b'0';
     }
     counts
 }
 
-// Which format it is: ROW or COL, else STANDARD.
+// Which format it is, ROW or COL, else STANDARD: the number that a record has for it.
 fn kind_in(s: &[u8]) -> u8
     ensures { result ≡ kind_in s.now }
 {
-    if s.len() < 4 {
-        return 0;
-    }
-    let word = &s[0..4];
+    let word = octets::front(s, 4);
     if octets::same_bytes(word, b"ROW\\") {
         return 1;
     }
@@ -133,8 +92,8 @@ pub fn layout_in(s: &[u8]) -> Layout
     let kind = kind_in(s);
     let t = texts::without_trailing(s);
     if is_standard(t) {
-        let lines = t[11] - 48;
-        let boxes = t[9] - 48;
+        let lines = t[11] - b'0';
+        let boxes = t[9] - b'0';
         return Layout {
             kind,
             lines,
@@ -155,25 +114,13 @@ pub fn layout_in(s: &[u8]) -> Layout
     }
 }
 
-fn wide(b: u8) -> u64
-    ensures { (result ≡ b) × (result < 256) }
-{
-    b as u64
-}
-
 // The sum of the first n.
 fn sum_of(a: [u8; 6], n: usize) -> u64
     ensures { (result ≡ sum (take n a)) × (result ≤ 1530) }
 {
-    let xs = a;
     let mut v: u64 = 0;
-    let mut i = 0;
-    while i < 6 {
-        if n <= i {
-            return v;
-        }
-        v = v + wide(xs[i]);
-        i += 1;
+    for x in octets::front(&a, n) {
+        v += u64::from(*x);
     }
     v
 }
@@ -190,7 +137,7 @@ pub fn box_count(l: Layout) -> u64
 fn counted(line: u8, lines: u8, boxes: u8) -> u64
     ensures { (result ≡ pick (ltb line lines) boxes 0) × (result < 256) }
 {
-    if line < lines { boxes as u64 } else { 0 }
+    if line < lines { u64::from(boxes) } else { 0 }
 }
 
 // The same of a layout that stands at a place. Without a loop: its six lines are looked at at once.

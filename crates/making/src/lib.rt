@@ -5,14 +5,10 @@ ghost use Rattle.std.specs.Prelude.{◌≡◌, ◌+◌, ◌≤◌, ◌%◌, leng
 ghost use Rattle.octets.specs.Octets.{laid, same};
 ghost use Rattle.uids.specs.Uids.{decimal, made};
 
-const DOT: u8 = b'.';
-
-const ZERO: u8 = b'0';
-
 fn digit(n: u32) -> u8
     ensures { result ≡ 48 + n % 10 }
 {
-    ZERO + (n % 10) as u8
+    b'0' + (n % 10) as u8
 }
 
 // A number in decimal from a place on; answers the place behind it. The tens come first, by a call of itself: ten deep at most.
@@ -36,7 +32,7 @@ pub fn put_made(out: &mut [u8], at: usize, root: &[u8], serial: u32) -> usize
 {
     octets::put(out, at, root);
     let dot = at + root.len();
-    out[dot] = DOT;
+    out[dot] = b'.';
     put_decimal(out, dot + 1, serial)
 }
 
@@ -45,16 +41,14 @@ fn is_decimal(s: &[u8], n: u32) -> bool
     ensures { result ≡ same s.now (decimal n) }
 {
     let mut rest = n;
-    let mut i = s.len();
-    while 0 < i {
-        i -= 1;
-        if s[i] != digit(rest) {
+    for (i, c) in s.iter().enumerate().rev() {
+        if *c != digit(rest) {
             return false;
         }
         if rest < 10 {
             return i == 0;
         }
-        rest = rest / 10;
+        rest /= 10;
     }
     false
 }
@@ -64,14 +58,8 @@ pub fn is_made(root: &[u8], serial: u32, uid: &[u8]) -> bool
     ensures { result ≡ same uid.now (made root.now serial) }
 {
     let dot = root.len();
-    if uid.len() <= dot {
-        return false;
-    }
-    if !is_decimal(&uid[dot + 1..], serial) {
-        return false;
-    }
-    if uid[dot] != DOT {
-        return false;
-    }
-    octets::same_bytes(&uid[0..dot], root)
+    dot < uid.len()
+        && is_decimal(&uid[dot + 1..], serial)
+        && uid[dot] == b'.'
+        && octets::same_bytes(&uid[..dot], root)
 }

@@ -2,15 +2,15 @@
 -- Assumes nothing.
 use Prim.Native.Nat.{ℕ, suc, ◌+◌, ◌*◌, ◌-◌, ◌<◌, ◌≤◌}
 use mathlib.Core.Path.{◌≡◌, sym, ap, ◌∙◌}
-use mathlib.Core.Bool.{Bool, false}
+use mathlib.Core.Bool.{Bool, true, false}
 use mathlib.Core.List.{List}
 use native.Mathlib.Omega.{arith}
-use lib.Dec.{eqb, ltb}
+use lib.Dec.{eqb, leb, ltb}
 use lib.ListN.{length, get_or}
 use lib.Seq.{drop-cons}
-use borrow.Author.Tests.{le-leb, lt-leb, lt-ltb, le-ltb, ne_eqb}
+use borrow.Author.Tests.{leb-true, lt-ltb, le-ltb, ne_eqb}
 use Rattle.choice.specs.Pick.{pick, both, not}
-use Rattle.choice.proofs.Picks.{both_only}
+use Rattle.choice.proofs.Picks.{both_only, both_assoc, both_true}
 use Rattle.octets.specs.Octets.{number_at, part}
 use Rattle.uids.specs.Uids.{is_uid, begins_with}
 use Rattle.rules.specs.declared.Numbers.{Numbers}
@@ -29,25 +29,28 @@ five_bytes b at =
     let e : at + 1 + 1 + 1 + 1 ≡ at + 4 = omega arith in
     rw e (omega arith)
 
+fits : (most n : ℕ) → between 1 most n ≡ true → n ≤ most
+fits most n e = leb-true n most (both_true (leb 1 n) (leb n most) e).1
+
 -- A name at a place.
 module _ (n : Numbers) (b : List ℕ) (p : ℕ) (h : p + name_size ≤ length b) where
-  pub sent_none : get_or b (p + 4) 0 < 1 → false ≡ sent_sound n (name_format.read b p)
+  pub sent_unfit : between 1 64 (get_or b (p + 4) 0) ≡ false → false ≡ sent_sound n (name_format.read b p)
   unfolding name_format serial_format every
-  sent_none k = rw (lt-leb 1 (get_or b (p + 4) 0) k)
+  sent_unfit k = rw k
 
-  pub sent_long : 64 < get_or b (p + 4) 0 → false ≡ sent_sound n (name_format.read b p)
-  unfolding name_format serial_format every
-  sent_long k = rw (le-leb 1 (get_or b (p + 4) 0) (omega arith), lt-leb (get_or b (p + 4) 0) 64 k)
-
-  pub sent_told : (r : Bool) → 1 ≤ get_or b (p + 4) 0 → get_or b (p + 4) 0 ≤ 64
+  pub sent_told : (r : Bool) → between 1 64 (get_or b (p + 4) 0) ≡ true
       → (let text = p + 4 + 1 in
       let stop = text + get_or b (p + 4) 0 in
-      r ≡ both (is_uid (part b text stop)) (both (not (begins_with (root_of n) (part b text stop))) (zeros (part b stop (text + 64)))))
+      r ≡ both (both (is_uid (part b text stop)) (not (begins_with (root_of n) (part b text stop)))) (zeros (part b stop (text + 64))))
       → r ≡ sent_sound n (name_format.read b p)
   unfolding name_format serial_format every
-  sent_told r k l e =
+  sent_told r k e =
       let u = get_or b (p + 4) 0 in
-      e ∙ sym (rw (le-leb 1 u k, le-leb u 64 l, text_front b (p + 4 + 1) 64 (omega arith) u l, text_behind b (p + 4 + 1) 64 (omega arith) u l, both_only (zeros (part b (p + 4 + 1 + u) (p + 4 + 1 + 64)))))
+      let l = fits 64 u k in
+      let uid = part b (p + 4 + 1) (p + 4 + 1 + u) in
+      let clear = zeros (part b (p + 4 + 1 + u) (p + 4 + 1 + 64)) in
+      e ∙ sym (both_assoc (is_uid uid) (not (begins_with (root_of n) uid)) clear)
+      ∙ sym (rw (k, text_front b (p + 4 + 1) 64 (omega arith) u l, text_behind b (p + 4 + 1) 64 (omega arith) u l, both_only clear))
 
   -- a made one: one zero test of length and text
   made_told : made_sound n (name_format.read b p) ≡ both (ltb (number_at 4 b p) n.serial) (zeros (part b (p + 4) (p + 69)))
@@ -77,18 +80,15 @@ module _ (b : List ℕ) (p : ℕ) (h : p + name_size ≤ length b) {made : ℕ} 
 
 -- The numbers.
 module _ (b : List ℕ) (h : numbers_size ≤ length b) where
-  pub numbers_none : get_or b 0 0 < 1 → false ≡ numbers_sound (numbers_in b)
+  pub numbers_unfit : between 1 40 (get_or b 0 0) ≡ false → false ≡ numbers_sound (numbers_in b)
   unfolding numbers_sound numbers_format every
-  numbers_none k = rw (lt-leb 1 (get_or b 0 0) k)
+  numbers_unfit k = rw k
 
-  pub numbers_long : 40 < get_or b 0 0 → false ≡ numbers_sound (numbers_in b)
-  unfolding numbers_sound numbers_format every
-  numbers_long k = rw (le-leb 1 (get_or b 0 0) (omega arith), lt-leb (get_or b 0 0) 40 k)
-
-  pub numbers_told : (r : Bool) → 1 ≤ get_or b 0 0 → get_or b 0 0 ≤ 40
+  pub numbers_told : (r : Bool) → between 1 40 (get_or b 0 0) ≡ true
       → r ≡ both (is_uid (root_of (numbers_in b))) (both (zeros (part b (1 + get_or b 0 0) 41)) (both (between 1 none_left (number_at 5 b 41)) (between 1 none_left (number_at 5 b 46))))
       → r ≡ numbers_sound (numbers_in b)
   unfolding numbers_sound numbers_format every
-  numbers_told r k l e =
+  numbers_told r k e =
       let u = get_or b 0 0 in
-      e ∙ sym (rw (le-leb 1 u k, le-leb u 40 l, text_behind b 1 root_limit (omega arith) u l, both_only (between 1 none_left (number_at 5 b 46))))
+      let l = fits 40 u k in
+      e ∙ sym (rw (k, text_behind b 1 root_limit (omega arith) u l, both_only (between 1 none_left (number_at 5 b 46))))

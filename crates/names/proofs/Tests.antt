@@ -3,10 +3,11 @@
 -- Assumes nothing.
 use Prim.Native.Nat.{ℕ, ◌≤◌}
 use mathlib.Core.Path.{◌≡◌, refl, sym, ◌∙◌}
-use mathlib.Core.Bool.{Bool, true, false, not}
+use mathlib.Core.Bool.{Bool, true, false}
 use mathlib.Core.List.{List, [], ◌∷◌}
 use lib.Dec.{leb}
 use borrow.Author.Tests.{lt-ltb, le-ltb, le-leb, lt-leb, eq-eqb, ne_eqb}
+use Rattle.choice.specs.Pick.{both}
 use Rattle.choice.proofs.Picks.{both_only}
 use Rattle.rules.specs.Lists.{every}
 
@@ -18,6 +19,10 @@ module _ {A : Type 0} (test : A → Bool) (x : A) (xs : List A) where
   pub first_passes : (r : Bool) → test x ≡ true → r ≡ every test xs → r ≡ every test (x ∷ xs)
   unfolding every
   first_passes r e f = rw e f
+
+  -- the same of what a function told
+  pub first_failed : (r : Bool) → r ≡ false → test x ≡ false → r ≡ every test (x ∷ xs)
+  first_failed r d e = d ∙ first_fails e
 
 pub last_told : {A : Type 0} (test : A → Bool) (x : A) (r : Bool) → r ≡ test x → r ≡ every test (x ∷ [])
 unfolding every
@@ -34,6 +39,14 @@ module _ (told test : Bool) (e : told ≡ test) where
 
   pub told_is : told ≡ true → test ≡ true
   told_is h = sym e ∙ h
+
+-- the code's `&&`: where the first passed, the value is the second's; where it did not, the first's
+module _ {told a : Bool} (b : Bool) {value : Bool} (e : told ≡ a) where
+  pub and_passed : told ≡ true → value ≡ b → value ≡ both a b
+  and_passed h v = v ∙ rw (sym e ∙ h)
+
+  pub and_failed : told ≡ false → value ≡ told → value ≡ both a b
+  and_failed h v = v ∙ h ∙ rw (sym e ∙ h)
 
 -- a number that a function told
 module _ (a told b : ℕ) (e : told ≡ b) where

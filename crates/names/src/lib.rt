@@ -9,7 +9,7 @@ ghost use Rattle.rules.specs.Bounds.{none_left};
 ghost use Rattle.rules.specs.Sound.{between, zeros, sent_sound, name_sound, numbers_sound};
 ghost use Rattle.records.specs.Places.{numbers_in};
 
-use records::{AT_PICTURE, AT_SERIAL, NAME, SERIAL};
+use records::{AT_PICTURE, AT_SERIAL, NAME, Records, SERIAL};
 use rules::{ROOT, TEXT};
 
 // The loop has no other way out, so that it is compiled to many bytes at once.
@@ -17,12 +17,10 @@ fn all_zero(s: &[u8]) -> bool
     ensures { result ≡ zeros s.now }
 {
     let mut clear = true;
-    let mut i = 0;
-    while i < s.len() {
-        if s[i] != 0 {
+    for b in s {
+        if *b != 0 {
             clear = false;
         }
-        i += 1;
     }
     clear
 }
@@ -40,46 +38,37 @@ pub fn next_at(b: &[u8], at: usize) -> u64
     requires { at + 5 ≤ length b.now }
     ensures { (result ≡ number_at 5 b.now at) × (result < 1099511627776) }
 {
-    let high = b[at + 4] as u64;
+    let high = u64::from(b[at + 4]);
     octets::u32_at(b, at) as u64 + 4294967296 * high
 }
 
 // A sent UID.
-fn sent_sound(b: &[u8], p: usize) -> bool
-    requires { (numbers_size ≤ length b.now) × (p + name_size ≤ length b.now) }
+fn sent_sound(b: &Records, p: usize) -> bool
+    requires { p + name_size ≤ length b.now }
     ensures { result ≡ sent_sound (numbers_in b.now) (name_format.read b.now p) }
 {
-    let used = b[p + SERIAL] as usize;
-    if used < 1 {
-        return false;
-    }
-    if TEXT < used {
+    let used = usize::from(b[p + SERIAL]);
+    if !(1..=TEXT).contains(&used) {
         return false;
     }
     let text = p + SERIAL + 1;
     let uid = &b[text..text + used];
-    if !uids::is_uid(uid) {
-        return false;
-    }
-    if uids::begins_with(records::root_in(b), uid) {
-        return false;
-    }
-    zeros_in(b, text + used, text + TEXT)
+    uids::is_uid(uid)
+        && !uids::begins_with(records::root_in(b), uid)
+        && zeros_in(b, text + used, text + TEXT)
 }
 
 // A made UID has a serial below the next, and no characters.
-pub fn name_sound(b: &[u8], p: usize) -> bool
-    requires { (numbers_size ≤ length b.now) × (p + name_size ≤ length b.now) }
+pub fn name_sound(b: &Records, p: usize) -> bool
+    requires { p + name_size ≤ length b.now }
     ensures { result ≡ name_sound (numbers_in b.now) (name_format.read b.now p) }
 {
     let made = octets::u32_at(b, p) as u64;
     if made == 0 {
-        return sent_sound(b, p);
+        sent_sound(b, p)
+    } else {
+        made < next_at(b, AT_SERIAL) && zeros_in(b, p + SERIAL, p + NAME)
     }
-    if next_at(b, AT_SERIAL) <= made {
-        return false;
-    }
-    zeros_in(b, p + SERIAL, p + NAME)
 }
 
 // Whether a next number is one: 1 to 4294967296, which says that none is left.
@@ -87,22 +76,14 @@ fn next_sound(b: &[u8], at: usize) -> bool
     requires { at + 5 ≤ length b.now }
     ensures { result ≡ between 1 none_left (number_at 5 b.now at) }
 {
-    let next = next_at(b, at);
-    if next < 1 {
-        return false;
-    }
-    next <= 4294967296
+    (1..=4294967296).contains(&next_at(b, at))
 }
 
-pub fn numbers_sound(b: &[u8]) -> bool
-    requires { numbers_size ≤ length b.now }
+pub fn numbers_sound(b: &Records) -> bool
     ensures { result ≡ numbers_sound (numbers_in b.now) }
 {
-    let used = b[0] as usize;
-    if used < 1 {
-        return false;
-    }
-    if ROOT < used {
+    let used = usize::from(b[0]);
+    if !(1..=ROOT).contains(&used) {
         return false;
     }
     if !uids::is_uid(records::root_in(b)) {
@@ -111,8 +92,5 @@ pub fn numbers_sound(b: &[u8]) -> bool
     if !zeros_in(b, 1 + used, 1 + ROOT) {
         return false;
     }
-    if !next_sound(b, AT_SERIAL) {
-        return false;
-    }
-    next_sound(b, AT_PICTURE)
+    next_sound(b, AT_SERIAL) && next_sound(b, AT_PICTURE)
 }

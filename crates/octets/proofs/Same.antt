@@ -1,14 +1,16 @@
 -- Two lists of bytes are the same exactly where they are equal; they are compared from the last byte back, and part by part.
 -- Assumes nothing.
-use Prim.Native.Nat.{ℕ, suc, ◌-◌, ◌<◌, ◌≤◌}
-use mathlib.Core.Path.{◌≡◌, refl, ap, ◌∙◌}
-use mathlib.Core.Bool.{true, false}
+use Prim.Native.Nat.{ℕ, suc}
+use mathlib.Core.Path.{◌≡◌, refl, sym, ap, ◌∙◌}
+use mathlib.Core.Bool.{Bool, true, false}
 use mathlib.Core.List.{List, [], ◌∷◌, ◌++◌}
 use native.Mathlib.Omega.{arith}
 use lib.Dec.{eqb}
-use lib.ListN.{length, get_or, take}
-use lib.Seq.{take-suc}
+use lib.ListN.{length, get_or}
 use borrow.Author.Tests.{eqb-true, eq-eqb}
+use Rattle.std.specs.Prelude.{◌↔◌, IsTrue, EachIndex, slice_index}
+use Rattle.std.specs.Cmp.{both_ways}
+use Rattle.std.proofs.lemmas.Grind.{same_number_lists}
 use Rattle.choice.proofs.Picks.{both_true, both_fails, both_swap, both_assoc, clash}
 use Rattle.choice.specs.Pick.{both}
 use Rattle.octets.specs.Octets.{same}
@@ -38,11 +40,6 @@ same_last (w ∷ a) [] x y = rw (none a x, both_fails (eqb w y), both_fails (eqb
     none (w ∷ a) x = refl
 same_last (w ∷ a) (z ∷ b) x y = rw (same_last a b x y) (both_swap (eqb w z) (eqb x y) (same a b))
 
-pub same_back : (s b : List ℕ) (i y : ℕ) → 0 < i → i ≤ length s → same (take i s) (b ++ (y ∷ [])) ≡ both (eqb (get_or s (i - 1) 0) y) (same (take (i - 1) s) b)
-same_back s b i y p h =
-    let k : i ≡ suc (i - 1) = omega arith in
-    ap (λ (n : ℕ). same (take n s) (b ++ (y ∷ []))) k ∙ rw (take-suc s (i - 1) 0 (omega arith)) (same_last (take (i - 1) s) b _ y)
-
 -- front and rest are compared apart
 pub same_parts : (a b c d : List ℕ) → length a ≡ length c → same (a ++ b) (c ++ d) ≡ both (same a c) (same b d)
 unfolding same
@@ -62,3 +59,10 @@ same_length [] [] n = absurd (n refl)
 same_length [] (y ∷ t) n = refl
 same_length (x ∷ s) [] n = refl
 same_length (x ∷ s) (y ∷ t) n = rw (same_length s t (λ e. n (ap suc e))) (both_fails (eqb x y))
+
+-- each byte is that at its place in the other
+pub same_each : (s t : List ℕ) (r : Bool) → length s ≡ length t → (IsTrue r ↔ EachIndex s (λ k. slice_index s k ≡ slice_index t k)) → r ≡ same s t
+same_each s t r n e =
+    both_ways r (same s t)
+    (λ k. ap (same s) (sym (same_number_lists s t n (e.0 k))) ∙ same_self s)
+    (λ k. e.1 (λ i h. ap (λ u. get_or u i 0) (same_equal s t k)))

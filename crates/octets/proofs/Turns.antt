@@ -1,35 +1,59 @@
 -- What one turn of each loop does.
 -- Assumes nothing.
 use Prim.Native.Nat.{ℕ, suc, ◌+◌, ◌*◌, ◌-◌, ◌<◌, ◌≤◌, ◌/◌, ◌%◌, ◌^◌}
-use mathlib.Core.Path.{◌≡◌, refl, sym, ap, ◌∙◌}
-use mathlib.Core.Bool.{true, false}
-use mathlib.Core.List.{List, ◌++◌, append-nil}
-use native.Mathlib.Nat.{add_assoc, pow-le-pow_right, lt_of_lt_of_le}
+use mathlib.Core.Path.{◌≡◌, sym, ap, ◌∙◌}
+use mathlib.Core.List.{List, [], ◌∷◌, ◌++◌, append-nil, append_assoc}
+use native.Mathlib.Nat.{pow-le-pow_right, lt_of_lt_of_le}
 use native.Mathlib.Numerals.{add-one}
 use native.Mathlib.Omega.{arith}
-use lib.Dec.{eqb}
-use lib.ListN.{length, get_or, set, take, drop, length-drop, drop_of_length-le}
-use lib.Seq.{take-suc, take-length, take_all, drop-drop}
+use lib.ListN.{length, get_or, set, take, drop, length-append, length-drop}
+use lib.Seq.{take-suc, take_all, drop-drop, get_or-drop}
 use borrow.Rule.Slice.PartMut.{put_mid}
-use Rattle.choice.specs.Pick.{pick}
-use Rattle.octets.specs.Octets.{number_at, big_number_at, octets, laid, same}
-use Rattle.octets.proofs.Laid.{laid_none, laid_cons}
+use mir.Syntax.{w8}
+use mir.Val.{Fits}
+use Rattle.std.proofs.lemmas.List.{same_from_push, take_more_set}
+use Rattle.octets.specs.Octets.{number_at, big_number_at, octets, part, laid}
 use Rattle.octets.proofs.Numbers.{below_step}
-use Rattle.octets.proofs.Same.{same_back}
+use Rattle.octets.proofs.Parts.{part_length}
 
--- a little-endian number is read from its last byte to its first: x is the byte before place i
-pub value_turn : (s : List ℕ) (at w i v x : ℕ) → 0 < i → i ≤ w → x ≡ get_or s (at + (i - 1)) 0 → v ≡ number_at (w - i) s (at + i)
-    → x + 256 * v ≡ number_at (w - (i - 1)) s (at + (i - 1))
-unfolding number_at
-value_turn s at w i v x h k e d =
-    let a : w - (i - 1) ≡ suc (w - i) = omega arith in
-    let b : at + (i - 1) + 1 ≡ at + i = omega arith in
-    rw (a, b, e, d)
+-- a number of at most seven bytes has room for one more
+pub small : {k v : ℕ} → k ≤ 7 → v < 256 ^ k → v < 72057594037927936
+small {k} {v} h l = lt_of_lt_of_le l (pow-le-pow_right (omega arith) h)
 
-pub below_turn : (w i v x : ℕ) → 0 < i → i ≤ w → x < 256 → v < 256 ^ (w - i) → x + 256 * v < 256 ^ (w - (i - 1))
-below_turn w i v x h k a b =
-    let e : w - (i - 1) ≡ suc (w - i) = omega arith in
-    rw e (below_step (w - i) x v a b)
+-- a little-endian number is read from its last byte to its first: `rest` are the bytes to come, and x is the last of them
+module _ (s : List ℕ) (at w v : ℕ) (rest before : List ℕ) (x : ℕ) (o : (i : ℕ) → Fits w8 (get_or s i 0)) (r : at + w ≤ length s) (e : rest ≡ before ++ (x ∷ [])) (h : length rest ≤ w)
+    (d : rest ≡ take (length rest) (drop at s)) (l : v < 256 ^ (w - length rest)) where
+  one_more : length rest ≡ suc (length before)
+  one_more = rw e (simp length-append (omega arith))
+
+  left : w - length before ≡ suc (w - length rest)
+  left = omega (arith, one_more)
+
+  parted : (before ≡ take (length before) (drop at s)) × (x ≡ get_or (drop at s) (length before) 0)
+  parted =
+      let k : length before < length (drop at s) = omega (arith, one_more, length-drop at s) in
+      same_from_push before (take (length before) (drop at s)) x (get_or (drop at s) (length before) 0)
+      (sym e ∙ d ∙ rw one_more (take-suc (drop at s) (length before) 0 k))
+
+  here : x ≡ get_or s (at + length before) 0
+  here = parted.1 ∙ get_or-drop at s (length before) 0
+
+  pub byte_turn : x < 256
+  byte_turn = rw here (omega (arith, o (at + length before)))
+
+  pub room_turn : w ≤ 8 → v < 72057594037927936
+  room_turn k = small {k = w - length rest} {v = v} (omega (arith, one_more)) l
+
+  pub value_turn : v ≡ number_at (w - length rest) s (at + length rest)
+      → (length before ≤ w) × (before ≡ take (length before) (drop at s)) × (x + 256 * v ≡ number_at (w - length before) s (at + length before)) × (x + 256 * v < 256 ^ (w - length before))
+  unfolding number_at
+  value_turn k =
+      let b : at + length before + 1 ≡ at + length rest = omega (arith, one_more) in (
+        omega (arith, one_more),
+        parted.0,
+        rw (left, ← here, b) (ap (λ (n : ℕ). x + 256 * n) k),
+        rw left (below_step (w - length rest) x v byte_turn l),
+      )
 
 -- a big-endian one from its first to its last
 pub big_turn : (s : List ℕ) (at i v x : ℕ) → x ≡ get_or s (at + i) 0 → v ≡ big_number_at i s at → 256 * v + x ≡ big_number_at (i + 1) s at
@@ -39,43 +63,22 @@ big_turn s at i v x e d = rw (add-one i, e, d)
 pub big_below_turn : (i v x : ℕ) → x < 256 → v < 256 ^ i → 256 * v + x < 256 ^ (i + 1)
 big_below_turn i v x a b = let h = below_step i x v a b in rw (add-one i) (omega arith)
 
--- a number of at most seven bytes has room for one more
-pub small : {k v : ℕ} → k ≤ 7 → v < 256 ^ k → v < 72057594037927936
-small {k} {v} h l = lt_of_lt_of_le l (pow-le-pow_right (omega arith) h)
-
 -- a number is written from its first byte to its last
-pub octets_turn : (s₀ s : List ℕ) (at w x v i b : ℕ) → i < w → at + i < length s → b ≡ v % 256 → laid s₀ at (octets w x) ≡ laid s (at + i) (octets (w - i) v)
-    → laid s₀ at (octets w x) ≡ laid (set s (at + i) b) (at + (i + 1)) (octets (w - (i + 1)) (v / 256))
+pub octets_turn : (bytes : List ℕ) (w x v i : ℕ) → i < w → i < length bytes → octets w x ≡ take i bytes ++ octets (w - i) v
+    → octets w x ≡ take (i + 1) (set bytes i (v % 256)) ++ octets (w - (i + 1)) (v / 256)
 unfolding octets
-octets_turn s₀ s at w x v i b h r e d =
+octets_turn bytes w x v i h r d =
     let a : w - i ≡ suc (w - (i + 1)) = omega arith in
-    d ∙ ap (λ (n : ℕ). laid s (at + i) (octets n v)) a
-    ∙ laid_cons s (at + i) (v % 256) (octets (w - (i + 1)) (v / 256)) r ∙ rw (e, ← add_assoc at i 1)
+    d ∙ ap (λ (n : ℕ). take i bytes ++ octets n v) a
+    ∙ rw (take_more_set bytes i (v % 256) r) (sym (append_assoc (take i bytes) (v % 256 ∷ []) (octets (w - (i + 1)) (v / 256))))
 
-pub octets_done : (s₀ s : List ℕ) (at w x v i : ℕ) → w ≤ i → laid s₀ at (octets w x) ≡ laid s (at + i) (octets (w - i) v) → s ≡ laid s₀ at (octets w x)
+pub octets_done : (s bytes : List ℕ) (at w x v i : ℕ) → at + w ≤ length s → length bytes ≡ length (part s at (at + w)) → length (part s at (at + w)) ≤ i
+    → octets w x ≡ take i bytes ++ octets (w - i) v → put_mid at (at + w - at) s bytes ≡ laid s at (octets w x)
 unfolding octets
-octets_done s₀ s at w x v i h d =
+octets_done s bytes at w x v i h k r d =
+    let n = part_length s at w h in
     let a : w - i ≡ 0 = omega arith in
-    sym (d ∙ rw a (laid_none s (at + i)))
-
--- a copy into the part of s from a place on
-pub copied_in : (b s x : List ℕ) (at : ℕ) → at + length b ≤ length s
-    → x ≡ take (length b) b ++ drop (length b) (take (length s - at) (drop at s))
-    → put_mid at (length s - at) s x ≡ laid s at b
-copied_in b s x at h e =
-    let k : length (drop at s) ≤ length s - at = omega (arith, length-drop at s) in
-    rw (e, take-length b, take_all (length s - at) (drop at s) k, drop_of_length-le (drop at s) k, append-nil, drop-drop (length b) at s)
-
--- two lists are compared from the last byte back
-pub same_turn : (s t : List ℕ) (i : ℕ) → 0 < i → i ≤ length s → length s ≡ length t
-    → same (take i s) (take i t) ≡ pick (eqb (get_or s (i - 1) 0) (get_or t (i - 1) 0)) (same (take (i - 1) s) (take (i - 1) t)) false
-same_turn s t i p h e =
-    let k : i ≡ suc (i - 1) = omega arith in
-    ap (λ (n : ℕ). same (take i s) (take n t)) k ∙ rw (take-suc t (i - 1) 0 (omega arith)) (same_back s (take (i - 1) t) i _ p h)
-
-pub same_start : (s t : List ℕ) → length s ≡ length t → same (take (length s) s) (take (length s) t) ≡ same s t
-same_start s t e = rw (take-length s) (rw (e, take-length t))
-
-pub same_end : (s t : List ℕ) (i : ℕ) → i ≤ 0 → same (take i s) (take i t) ≡ true
-unfolding same
-same_end s t i h = let k : i ≡ 0 = omega arith in rw k
+    let b : at + w - at ≡ w = omega arith in
+    let e : octets w x ≡ bytes = d ∙ rw (a, take_all i bytes (omega arith), append-nil) in
+    let l : length bytes ≡ w = omega arith in
+    rw (b, e, l, drop-drop w at s)

@@ -4,42 +4,26 @@
 ghost use Rattle.std.specs.Prelude.{◌≡◌, ◌+◌, ◌≤◌, ◌<◌, ◌^◌, ◌%◌, length, take};
 ghost use Rattle.octets.specs.Octets.{number_at, big_number_at, octets, laid, same};
 
-fn wide(b: u8) -> u64
-    ensures { (result ≡ b) × (result < 256) }
-{
-    b as u64
-}
-
-fn low(x: u64) -> u8
-    ensures { result ≡ x % 256 }
-{
-    (x % 256) as u8
-}
-
 // The number of `width` bytes at a place, little endian.
 pub fn number_at(s: &[u8], at: usize, width: usize) -> u64
     requires { (width ≤ 8) × (at + width ≤ length s.now) }
     ensures { (result ≡ number_at width s.now at) × (result < 256 ^ width) }
 {
     let mut v: u64 = 0;
-    let mut i = width;
-    while 0 < i {
-        i -= 1;
-        v = wide(s[at + i]) + 256 * v;
+    for b in s[at..at + width].iter().rev() {
+        v = u64::from(*b) + 256 * v;
     }
     v
 }
 
-// The same, big endian.
+// The same, big endian, by a loop of its own: one for both would take the bytes as an iterator, which is no plainer.
 pub fn big_number_at(s: &[u8], at: usize, width: usize) -> u64
     requires { (width ≤ 8) × (at + width ≤ length s.now) }
     ensures { (result ≡ big_number_at width s.now at) × (result < 256 ^ width) }
 {
     let mut v: u64 = 0;
-    let mut i = 0;
-    while i < width {
-        v = 256 * v + wide(s[at + i]);
-        i += 1;
+    for b in &s[at..at + width] {
+        v = 256 * v + u64::from(*b);
     }
     v
 }
@@ -49,7 +33,7 @@ pub fn u16_at(s: &[u8], at: usize) -> usize
     requires { at + 2 ≤ length s.now }
     ensures { (result ≡ number_at 2 s.now at) × (result < 65536) }
 {
-    (wide(s[at]) + 256 * wide(s[at + 1])) as usize
+    usize::from(s[at]) + 256 * usize::from(s[at + 1])
 }
 
 pub fn u32_at(s: &[u8], at: usize) -> usize
@@ -59,10 +43,10 @@ pub fn u32_at(s: &[u8], at: usize) -> usize
     let second = at + 1;
     let third = second + 1;
     let fourth = third + 1;
-    (wide(s[at])
-        + 256 * wide(s[second])
-        + 65536 * wide(s[third])
-        + 16777216 * wide(s[fourth])) as usize
+    usize::from(s[at])
+        + 256 * usize::from(s[second])
+        + 65536 * usize::from(s[third])
+        + 16777216 * usize::from(s[fourth])
 }
 
 // A number in `width` bytes from a place on, little endian.
@@ -71,11 +55,9 @@ pub fn put_number(s: &mut [u8], at: usize, width: usize, x: u64)
     ensures { s.new ≡ laid s.old at (octets width x) }
 {
     let mut v = x;
-    let mut i = 0;
-    while i < width {
-        s[at + i] = low(v);
-        v = v / 256;
-        i += 1;
+    for b in s[at..at + width].iter_mut() {
+        *b = (v % 256) as u8;
+        v /= 256;
     }
 }
 
@@ -91,26 +73,12 @@ pub fn put(s: &mut [u8], at: usize, bytes: &[u8])
 pub fn front(s: &[u8], n: usize) -> &[u8]
     ensures { result.now ≡ take n s.now }
 {
-    if n < s.len() {
-        return &s[0..n];
-    }
-    s
+    &s[..n.min(s.len())]
 }
 
 // Whether two slices hold the same bytes: lengths first, then from the last byte back, for long UIDs differ at their end.
 pub fn same_bytes(s: &[u8], t: &[u8]) -> bool
     ensures { result ≡ same s.now t.now }
 {
-    let n = s.len();
-    if n != t.len() {
-        return false;
-    }
-    let mut i = n;
-    while 0 < i {
-        i -= 1;
-        if s[i] != t[i] {
-            return false;
-        }
-    }
-    true
+    s.len() == t.len() && s.iter().rev().zip(t.iter().rev()).all(|(a, b)| a == b)
 }

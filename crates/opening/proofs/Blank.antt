@@ -1,12 +1,15 @@
 -- What is not there stands in zeros: so a closed association and no message are written.
 -- Assumes nothing.
-use Prim.Native.Nat.{ℕ, suc, ◌+◌, ◌-◌, ◌<◌, ◌≤◌}
+use Prim.Native.Nat.{ℕ, ◌-◌, ◌≤◌}
 use mathlib.Core.Path.{◌≡◌, refl, sym, ap, ◌∙◌}
-use mathlib.Core.List.{List, []}
+use mathlib.Core.List.{List, [], ◌++◌}
 use native.Mathlib.Omega.{arith}
-use lib.ListN.{length, set, drop, replicate}
+use lib.ListN.{length, take, drop, replicate, length-drop}
+use lib.Seq.{length-take-le}
+use borrow.Rule.Slice.PartMut.{put_mid, mid_of}
+use Rattle.std.proofs.lemmas.List.{length-replicate, drop-drop}
 use Rattle.octets.specs.Octets.{octets, laid, Bytes}
-use Rattle.octets.proofs.Laid.{laid_none, laid_cons, laid_then, length_laid}
+use Rattle.octets.proofs.Laid.{laid_then, length_laid}
 use Rattle.fields.specs.Format.{write, array, bytes_all}
 use Rattle.fields.proofs.Laws.{write_read}
 use Rattle.strike.specs.Machine.{idle}
@@ -23,18 +26,13 @@ use Rattle.records.specs.Places.{shelf_place, queue_place, opened_place, core_in
 use Rattle.records.proofs.Parts.{core_numbers, core_queue}
 use Rattle.records.proofs.Alone.{drop_laid, kept, core_then_input, opened_alone}
 
--- One turn: a zero more.
+-- A part filled with zeros.
 
-pub zeros_turn : (s₀ s : List ℕ) (from end i : ℕ) → i < end → end ≤ length s → laid s₀ from (replicate (end - from) 0) ≡ laid s i (replicate (end - i) 0)
-    → laid s₀ from (replicate (end - from) 0) ≡ laid (set s i 0) (i + 1) (replicate (end - (i + 1)) 0)
-zeros_turn s₀ s from end i h l e =
-    let k : end - i ≡ suc (end - (i + 1)) = omega arith in
-    e ∙ ap (λ (n : ℕ). laid s i (replicate n 0)) k ∙ laid_cons s i 0 (replicate (end - (i + 1)) 0) (omega arith)
-
-pub zeros_done : (s₀ s : List ℕ) (from end i : ℕ) → end ≤ i → laid s₀ from (replicate (end - from) 0) ≡ laid s i (replicate (end - i) 0) → s ≡ laid s₀ from (replicate (end - from) 0)
-zeros_done s₀ s from end i h e =
-    let k : end - i ≡ 0 = omega arith in
-    sym (e ∙ rw k (laid_none s i))
+pub zeros_laid : (s ys : List ℕ) (from end : ℕ) → from ≤ end → end ≤ length s → ys ≡ replicate (length (mid_of from (end - from) s)) 0
+    → put_mid from (end - from) s ys ≡ laid s from (replicate (end - from) 0)
+zeros_laid s ys from end h l e =
+    let n : length (mid_of from (end - from) s) ≡ end - from = length-take-le (end - from) (drop from s) (omega (arith, length-drop from s)) in
+    rw (e, n, length-replicate {A = ℕ} (end - from) 0) (ap (λ (z : List ℕ). take from s ++ (replicate (end - from) 0 ++ z)) (drop-drop (end - from) from s))
 
 -- The bytes of what is not there.
 

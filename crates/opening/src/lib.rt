@@ -2,21 +2,22 @@
 #![tactic(auto)]
 
 ghost use Rattle.std.specs.Prelude.{◌≡◌, ◌-◌, ◌<◌, ◌≤◌, length, replicate};
-ghost use Rattle.choice.specs.Rules.{first_broken};
+ghost use Rattle.choice.specs.Rules.{first_broken, number_by};
 ghost use Rattle.octets.specs.Octets.{laid};
 ghost use Rattle.fields.specs.Format.{write};
 ghost use Rattle.strike.specs.Machine.{idle};
 ghost use Rattle.rules.specs.Bounds.{root_limit};
 ghost use Rattle.rules.specs.Lists.{filled_to};
-ghost use Rattle.rules.specs.Layout.{core_size, records_size, input_format};
+ghost use Rattle.rules.specs.Layout.{core_size, input_format};
 ghost use Rattle.rules.specs.Calls.{bad_root, bad_number, message_wrong, bad_context, bad_syntax, start_rules, open_rules, started, opened, closed};
+ghost use Rattle.rules.specs.Failures.{number_of};
 ghost use Rattle.rules.specs.Outcomes.{input_held, written};
 ghost use Rattle.records.specs.Places.{core_in};
 ghost use Rattle.runs.specs.Host.{start_handed, open_handed};
 ghost use Rattle.runs.specs.CallContracts.{StartMet, OpenMet, CloseMet};
 
-use records::{AT_INPUT, AT_OPENED, AT_QUEUE, AT_ROOM, AT_SESSIONS, RECORDS};
-use rules::{Core, Numbers, Opened};
+use records::{AT_INPUT, AT_OPENED, AT_QUEUE, AT_ROOM, AT_SESSIONS, RECORDS, Record, Records};
+use rules::{Core, Numbers, Opened, Refusal};
 
 // The records afterwards.
 
@@ -24,27 +25,21 @@ fn put_zeros(s: &mut [u8], from: usize, end: usize)
     requires { (from ≤ end) × (end ≤ length s.old) }
     ensures { s.new ≡ laid s.old from (replicate (end - from) 0) }
 {
-    let mut i = from;
-    while i < end {
-        s[i] = 0;
-        i += 1;
-    }
+    s[from..end].fill(0);
 }
 
 // No message half collected.
-pub fn put_no_input(records: &mut [u8])
-    requires { records_size ≤ length records.old }
+pub fn put_no_input(records: &mut Records)
     ensures { records.new ≡ write input_format (input_held idle) records.old core_size }
 {
     put_zeros(records, AT_INPUT, RECORDS);
 }
 
 // Another core with no message half collected.
-fn put_core(records: &mut [u8], core: Core)
-    requires { records_size ≤ length records.old }
-    ensures { records.new ≡ written (record { core = core; input = idle }) records.old }
+fn put_core(records: &mut Records, core: &Core)
+    ensures { records.new ≡ written (record { core = core.now; input = idle }) records.old }
 {
-    records::put_core(records, 0, core);
+    core.put(records, 0);
     put_no_input(records);
 }
 
@@ -53,10 +48,7 @@ fn put_core(records: &mut [u8], core: Core)
 fn root_bad(root: &[u8]) -> bool
     ensures { result ≡ bad_root root.now }
 {
-    if !uids::is_uid(root) {
-        return true;
-    }
-    40 < root.len()
+    !uids::is_uid(root) || 40 < root.len()
 }
 
 // A number of 32 bits is never past the last.
@@ -66,19 +58,19 @@ fn number_bad(n: u32) -> bool
     n == 0
 }
 
-fn start_refusal(root: &[u8], serial: u32, picture: u32) -> u32
-    ensures { result ≡ first_broken (start_rules (start_handed root.now serial picture)) }
+fn start_refusal(root: &[u8], serial: u32, picture: u32) -> Result<(), Refusal>
+    ensures { number_by number_of result ≡ first_broken (start_rules (start_handed root.now serial picture)) }
 {
     if root_bad(root) {
-        return 3;
+        return Err(Refusal::BadArgument);
     }
     if number_bad(serial) {
-        return 3;
+        return Err(Refusal::BadArgument);
     }
     if number_bad(picture) {
-        return 3;
+        return Err(Refusal::BadArgument);
     }
-    0
+    Ok(())
 }
 
 fn new_numbers(root: &[u8], serial: u32, picture: u32) -> Numbers
@@ -120,26 +112,33 @@ fn started(root: &[u8], serial: u32, picture: u32) -> Core
     }
 }
 
-pub fn start(records: &mut [u8], root: &[u8], serial: u32, picture: u32) -> u32
-    ensures { StartMet records.old root.now serial picture result records.new }
+// The calls stand twice: over the records alone, and over all that is lent. A function that takes the first as a closure is no plainer.
+fn start_records(
+    records: &mut Records,
+    root: &[u8],
+    serial: u32,
+    picture: u32,
+) -> Result<(), Refusal>
+    ensures { StartMet records.old root.now serial picture (number_by number_of result) records.new }
 {
-    if records.len() < RECORDS {
-        return 2;
+    start_refusal(root, serial, picture)?;
+    put_core(records, &started(root, serial, picture));
+    Ok(())
+}
+
+pub fn start(records: &mut [u8], root: &[u8], serial: u32, picture: u32) -> Result<(), Refusal>
+    ensures { StartMet records.old root.now serial picture (number_by number_of result) records.new }
+{
+    match records.first_chunk_mut::<RECORDS>() {
+        Some(b) => start_records(b, root, serial, picture),
+        None => Err(Refusal::Short),
     }
-    let refusal = start_refusal(root, serial, picture);
-    if refusal != 0 {
-        return refusal;
-    }
-    let core = started(root, serial, picture);
-    put_core(records, core);
-    0
 }
 
 // Open.
 
 // "the message buffer is out of limits or, while open, of another length"
-pub fn message_wrong(records: &[u8], room: usize) -> bool
-    requires { records_size ≤ length records.now }
+pub fn message_wrong(records: &Records, room: usize) -> bool
     ensures { result ≡ message_wrong (core_in records.now) room }
 {
     if room < 4096 {
@@ -148,57 +147,41 @@ pub fn message_wrong(records: &[u8], room: usize) -> bool
     if 16777216 < room {
         return true;
     }
-    if records[AT_OPENED] == 0 {
-        return false;
-    }
-    if room == octets::u32_at(records, AT_ROOM) {
-        return false;
-    }
-    true
+    records[AT_OPENED] != 0 && room != octets::u32_at(records, AT_ROOM)
 }
 
 fn context_bad(n: u32) -> bool
     ensures { result ≡ bad_context n }
 {
-    if n % 2 == 0 {
-        return true;
-    }
-    255 < n
+    n % 2 == 0 || 255 < n
 }
 
 fn syntax_bad(n: u32) -> bool
     ensures { result ≡ bad_syntax n }
 {
-    if n == 1 {
-        return false;
-    }
-    if n == 2 {
-        return false;
-    }
-    true
+    !matches!(n, 1 | 2)
 }
 
-fn open_refusal(records: &[u8], room: usize, context: u32, syntax: u32) -> u32
-    requires { records_size ≤ length records.now }
-    ensures { result ≡ first_broken (open_rules (core_in records.now) (open_handed context syntax room)) }
+fn open_refusal(records: &Records, room: usize, context: u32, syntax: u32) -> Result<(), Refusal>
+    ensures { number_by number_of result ≡ first_broken (open_rules (core_in records.now) (open_handed context syntax room)) }
 {
     if message_wrong(records, room) {
-        return 2;
+        return Err(Refusal::Short);
     }
     if context_bad(context) {
-        return 3;
+        return Err(Refusal::BadArgument);
     }
     if syntax_bad(syntax) {
-        return 3;
+        return Err(Refusal::BadArgument);
     }
     if records[AT_OPENED] != 0 {
-        return 3;
+        return Err(Refusal::BadArgument);
     }
-    0
+    Ok(())
 }
 
-fn put_open(records: &mut [u8], room: usize, context: u32, syntax: u32)
-    requires { (records_size ≤ length records.old) × (room < 4294967296) × (context < 256) × (syntax < 256) }
+fn put_open(records: &mut Records, room: usize, context: u32, syntax: u32)
+    requires { (room < 4294967296) × (context < 256) × (syntax < 256) }
     ensures { records.new ≡ written (record { core = opened (core_in records.old) (open_handed context syntax room); input = idle }) records.old }
 {
     let fixed = Opened {
@@ -207,46 +190,59 @@ fn put_open(records: &mut [u8], room: usize, context: u32, syntax: u32)
         syntax: syntax as u8,
         room: room as u32,
     };
-    records::put_opened(records, AT_OPENED, fixed);
+    fixed.put(records, AT_OPENED);
     put_no_input(records);
 }
 
-pub fn open(records: &mut [u8], message: &[u8], context: u32, syntax: u32) -> u32
-    ensures { OpenMet records.old message.now context syntax result records.new }
+fn open_records(
+    records: &mut Records,
+    message: &[u8],
+    context: u32,
+    syntax: u32,
+) -> Result<(), Refusal>
+    ensures { OpenMet records.old message.now context syntax (number_by number_of result) records.new }
 {
-    let unread = soundness::refusal(records);
-    if unread != 0 {
-        return unread;
-    }
-    let refusal = open_refusal(records, message.len(), context, syntax);
-    if refusal != 0 {
-        return refusal;
-    }
+    soundness::refusal(records)?;
+    open_refusal(records, message.len(), context, syntax)?;
     put_open(records, message.len(), context, syntax);
-    0
+    Ok(())
+}
+
+pub fn open(records: &mut [u8], message: &[u8], context: u32, syntax: u32) -> Result<(), Refusal>
+    ensures { OpenMet records.old message.now context syntax (number_by number_of result) records.new }
+{
+    match records.first_chunk_mut::<RECORDS>() {
+        Some(b) => open_records(b, message, context, syntax),
+        None => Err(Refusal::Short),
+    }
 }
 
 // Close.
 
 // "Close drops session, films, boxes and input; queue and next numbers stay."
-pub fn put_closed(records: &mut [u8])
-    requires { records_size ≤ length records.old }
+pub fn put_closed(records: &mut Records)
     ensures { records.new ≡ written (record { core = closed (core_in records.old); input = idle }) records.old }
 {
     put_zeros(records, AT_SESSIONS, AT_QUEUE);
     put_zeros(records, AT_OPENED, RECORDS);
 }
 
-pub fn close(records: &mut [u8]) -> u32
-    ensures { CloseMet records.old result records.new }
+fn close_records(records: &mut Records) -> Result<(), Refusal>
+    ensures { CloseMet records.old (number_by number_of result) records.new }
 {
-    let unread = soundness::refusal(records);
-    if unread != 0 {
-        return unread;
-    }
+    soundness::refusal(records)?;
     if records[AT_OPENED] == 0 {
-        return 4;
+        return Err(Refusal::NotOpen);
     }
     put_closed(records);
-    0
+    Ok(())
+}
+
+pub fn close(records: &mut [u8]) -> Result<(), Refusal>
+    ensures { CloseMet records.old (number_by number_of result) records.new }
+{
+    match records.first_chunk_mut::<RECORDS>() {
+        Some(b) => close_records(b),
+        None => Err(Refusal::Short),
+    }
 }

@@ -5,19 +5,19 @@ use mathlib.Core.List.{List, [], ◌∷◌, ◌++◌, map}
 use Prim.Native.Nat.{ℕ, ◌+◌, ◌*◌}
 use Prim.Native.String.{String}
 use lib.ListN.{replicate}
+use Rattle.std.specs.Prelude.{Result, Ok, Err}
 use Rattle.headers.specs.declared.Syntax.{Syntax}
 use Rattle.headers.specs.declared.Syntax.TheVariants.{Implicit, Explicit}
-use Rattle.elements.specs.declared.Read.{Read}
-use Rattle.elements.specs.declared.Read.TheVariants.{Past, Refused}
+use Rattle.elements.specs.declared.Stop.{Stop}
 use Rattle.elements.specs.Reader.{data_set}
 use Rattle.rules.specs.Lists.{from}
 use Rattle.rules.proofs.Book.{the_book}
 use Rattle.rules.proofs.Stage.{hex, joined, Example, gives, AllHold}
 
 -- number, place and depth; 0 and the place behind all of it where it is read
-abbrev stop : Read → List ℕ
-stop (Past q) = 0 ∷ q ∷ 0 ∷ []
-stop (Refused s) = s.number ∷ s.place ∷ s.depth ∷ []
+abbrev stop : Result ℕ Stop → List ℕ
+stop (Ok q) = 0 ∷ q ∷ 0 ∷ []
+stop (Err s) = s.number ∷ s.place ∷ s.depth ∷ []
 
 abbrev stops : Syntax → List (List ℕ) → List (List ℕ)
 stops syntax sets = map (λ s. stop (data_set s syntax)) sets

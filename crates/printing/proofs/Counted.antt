@@ -1,6 +1,6 @@
 -- A list made from the numbers from one on.
 -- Assumes nothing.
-use Rattle.std.proofs.Common.{◌≡◌, ℕ, zero, suc, ◌+◌, ◌<◌, ◌≤◌, List, [], ◌∷◌, ◌++◌, map, length, take, set, sym, refl, ap, ◌∙◌, add-one, arith, take_all, take-suc-set}
+use Rattle.std.proofs.Common.{◌≡◌, ℕ, zero, suc, ◌+◌, ◌<◌, List, [], ◌∷◌, ◌++◌, map, length, take, set, sym, refl, ap, ◌∙◌, add-one, arith, take-suc-set}
 use Rattle.rules.specs.Lists.{from}
 
 module _ {A : Type 0} (f : ℕ → A) where
@@ -20,8 +20,3 @@ module _ {A : Type 0} (f : ℕ → A) where
   made_turn i xs x h e d =
       let s : i + 1 ≡ 1 + i = omega arith in
       rw (add-one i) (take-suc-set xs i x h ∙ (ap (λ (ys : List A). ys ++ (x ∷ [])) d ∙ (ap (λ (y : A). map f (from 1 i) ++ (y ∷ [])) (e ∙ ap f s) ∙ sym (made_next 1 i))))
-
-  pub made_done : (n i : ℕ) (xs : List A) → length xs ≡ n → n ≤ i → i ≤ n → take i xs ≡ map f (from 1 i) → xs ≡ map f (from 1 n)
-  made_done n i xs e h k d =
-      let j : i ≡ n = omega arith in
-      sym (take_all i xs (omega arith)) ∙ (d ∙ ap (λ (m : ℕ). map f (from 1 m)) j)

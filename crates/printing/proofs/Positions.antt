@@ -1,6 +1,6 @@
 -- Boxes by their positions: the picture at one, and two filled boxes at one.
 -- Assumes nothing.
-use Rattle.std.proofs.Common.{◌≡◌, ℕ, ◌+◌, ◌<◌, ◌≤◌, Bool, true, false, eqb, List, [], ◌∷◌, length, get_or, take, drop, sym, refl, ap, ◌∙◌, eq-eqb, ne_eqb, eqb-true}
+use Rattle.std.proofs.Common.{◌≡◌, ℕ, ◌+◌, ◌<◌, ◌≤◌, Bool, true, false, eqb, List, [], ◌∷◌, length, get_or, drop, sym, refl, ap, ◌∙◌, eq-eqb, ne_eqb, eqb-true}
 use borrow.Author.Tests.{eqb-false}
 use Rattle.choice.specs.Pick.{pick, both, not}
 use Rattle.rules.specs.declared.ImageBox.{ImageBox}
@@ -13,18 +13,18 @@ use Rattle.printing.proofs.Rest.{rest_next, rest_none}
 
 -- The picture at a position.
 
-module _ (position : ℕ) (xs : List ImageBox) (n i : ℕ) where
-  pub picture_here : (d : ImageBox) → i < n → n ≤ length xs → both (filled (get_or xs i d)) (eqb (get_or xs i d).position position) ≡ true → picture_on (drop i (take n xs)) position ≡ (get_or xs i d).picture
+module _ (position : ℕ) (xs : List ImageBox) (i : ℕ) where
+  pub picture_here : (d : ImageBox) → i < length xs → both (filled (get_or xs i d)) (eqb (get_or xs i d).position position) ≡ true → picture_on (drop i xs) position ≡ (get_or xs i d).picture
   unfolding picture_on
-  picture_here d h l e = ap (λ bs. picture_on bs position) (rest_next xs n i d h l) ∙ rw e
+  picture_here d h e = ap (λ bs. picture_on bs position) (rest_next xs i d h) ∙ rw e
 
-  pub picture_on_lem : (d : ImageBox) → i < n → n ≤ length xs → both (filled (get_or xs i d)) (eqb (get_or xs i d).position position) ≡ false → picture_on (drop i (take n xs)) position ≡ picture_on (drop (i + 1) (take n xs)) position
+  pub picture_on_lem : (d : ImageBox) → i < length xs → both (filled (get_or xs i d)) (eqb (get_or xs i d).position position) ≡ false → picture_on (drop i xs) position ≡ picture_on (drop (i + 1) xs) position
   unfolding picture_on
-  picture_on_lem d h l e = ap (λ bs. picture_on bs position) (rest_next xs n i d h l) ∙ rw e
+  picture_on_lem d h e = ap (λ bs. picture_on bs position) (rest_next xs i d h) ∙ rw e
 
-  pub picture_none : n ≤ i → picture_on (drop i (take n xs)) position ≡ picture 0
+  pub picture_none : length xs ≤ i → picture_on (drop i xs) position ≡ picture 0
   unfolding picture_on
-  picture_none h = ap (λ bs. picture_on bs position) (rest_none xs n i h)
+  picture_none h = ap (λ bs. picture_on bs position) (rest_none xs i h)
 
 -- Two filled boxes at one position.
 
@@ -70,15 +70,15 @@ apart_filled b bs = apart_turn b (filled_boxes bs) (filled b) ∙ rw (nowhere_fi
 abbrev pub collide : List ImageBox → Bool
 collide bs = not (apart same_position (filled_boxes bs))
 
-module _ (xs : List ImageBox) (n i : ℕ) where
+module _ (xs : List ImageBox) (i : ℕ) where
   -- the next box is repeated
-  pub collide_here : (d : ImageBox) → i < n → n ≤ length xs → repeated (get_or xs i d) (drop (i + 1) (take n xs)) ≡ true → collide (drop i (take n xs)) ≡ true
-  collide_here d h l e = ap collide (rest_next xs n i d h l) ∙ rw (apart_filled (get_or xs i d) (drop (i + 1) (take n xs)), e)
+  pub collide_here : (d : ImageBox) → i < length xs → repeated (get_or xs i d) (drop (i + 1) xs) ≡ true → collide (drop i xs) ≡ true
+  collide_here d h e = ap collide (rest_next xs i d h) ∙ rw (apart_filled (get_or xs i d) (drop (i + 1) xs), e)
 
   -- it is not
-  pub collide_on : (d : ImageBox) → i < n → n ≤ length xs → repeated (get_or xs i d) (drop (i + 1) (take n xs)) ≡ false → collide (drop i (take n xs)) ≡ collide (drop (i + 1) (take n xs))
-  collide_on d h l e = ap collide (rest_next xs n i d h l) ∙ rw (apart_filled (get_or xs i d) (drop (i + 1) (take n xs)), e)
+  pub collide_on : (d : ImageBox) → i < length xs → repeated (get_or xs i d) (drop (i + 1) xs) ≡ false → collide (drop i xs) ≡ collide (drop (i + 1) xs)
+  collide_on d h e = ap collide (rest_next xs i d h) ∙ rw (apart_filled (get_or xs i d) (drop (i + 1) xs), e)
 
-  pub collide_none : n ≤ i → collide (drop i (take n xs)) ≡ false
+  pub collide_none : length xs ≤ i → collide (drop i xs) ≡ false
   unfolding apart filled_boxes
-  collide_none h = ap collide (rest_none xs n i h)
+  collide_none h = ap collide (rest_none xs i h)

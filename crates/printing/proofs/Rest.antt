@@ -1,38 +1,35 @@
--- The first few elements of a list, from one place on; a test of any of them.
+-- The elements of a list from one place on; a test of any of them.
 -- Assumes nothing.
-use Rattle.std.proofs.Common.{◌≡◌, ℕ, ◌+◌, ◌<◌, ◌≤◌, Bool, true, false, List, [], ◌∷◌, length, get_or, take, drop, sym, ap, ◌∙◌, add-one, arith, drop_of_length-le, length-take, take_all, drop-cons, get_or-take}
+use Rattle.std.proofs.Common.{◌≡◌, ℕ, ◌+◌, ◌-◌, ◌<◌, ◌≤◌, Bool, true, false, List, [], ◌∷◌, length, get_or, take, drop, refl, add-one, arith, drop_of_length-le, length-drop, take_all, drop-cons}
+use Rattle.std.specs.Prelude.{◌||◌}
+use Rattle.std.specs.List.{list_any}
+use mathlib.Core.Bool as bool
+use Rattle.choice.specs.Pick.{either, not}
 use Rattle.rules.specs.Lists.{any}
 
-module _ {A : Type 0} (xs : List A) (n i : ℕ) where
+module _ {A : Type 0} (xs : List A) (i : ℕ) where
   -- the next of them
-  pub rest_next : (d : A) → i < n → n ≤ length xs → drop i (take n xs) ≡ get_or xs i d ∷ drop (i + 1) (take n xs)
-  rest_next d h l =
-      let short : i < length (take n xs) = rw (length-take) (omega arith) in
-      rw (add-one i, drop-cons (take n xs) i d short, get_or-take n xs i d h)
+  pub rest_next : (d : A) → i < length xs → drop i xs ≡ get_or xs i d ∷ drop (i + 1) xs
+  rest_next d h = rw (add-one i, drop-cons xs i d h)
+
+  -- all of them, by their count
+  pub rest_all : take (length xs - i) (drop i xs) ≡ drop i xs
+  rest_all = take_all (length xs - i) (drop i xs) (rw (length-drop) (omega arith))
 
   -- none is left
-  pub rest_none : n ≤ i → drop i (take n xs) ≡ []
-  rest_none h = let short : length (take n xs) ≤ i = rw (length-take) (omega arith) in drop_of_length-le (take n xs) short
+  pub rest_none : length xs ≤ i → drop i xs ≡ []
+  rest_none h = drop_of_length-le xs h
 
-module _ {A : Type 0} (test : A → Bool) (xs : List A) (n i : ℕ) where
-  -- the next passes
-  pub any_here : (d : A) → i < n → n ≤ length xs → test (get_or xs i d) ≡ true → any test (drop i (take n xs)) ≡ true
-  unfolding any
-  any_here d h l e = ap (any test) (rest_next xs n i d h l) ∙ rw e
+either_or : (a b c : Bool) → b ≡ c → (a || b) ≡ either a c
+either_or true b c e = refl
+either_or false b c e = e
 
-  -- it does not
-  pub any_on : (d : A) → i < n → n ≤ length xs → test (get_or xs i d) ≡ false → any test (drop i (take n xs)) ≡ any test (drop (i + 1) (take n xs))
-  unfolding any
-  any_on d h l e = ap (any test) (rest_next xs n i d h l) ∙ rw e
+-- the test that an iterator makes of any element
+pub any_listed : {A : Type 0} (test : A → Bool) (xs : List A) → list_any test xs ≡ any test xs
+unfolding any
+any_listed test [] = refl
+any_listed test (x ∷ xs) = either_or (test x) (list_any test xs) (any test xs) (any_listed test xs)
 
-  pub any_none : n ≤ i → any test (drop i (take n xs)) ≡ false
-  unfolding any
-  any_none h = ap (any test) (rest_none xs n i h)
-
--- How many the first few are.
-module _ {A : Type 0} (xs : List A) (n : ℕ) where
-  pub few_all : (m : ℕ) → length xs ≡ m → m < n → (take m xs ≡ take n xs) × (length (take n xs) ≡ m)
-  few_all m e h = (take_all m xs (omega arith) ∙ sym (take_all n xs (omega arith)), rw (length-take) (omega arith))
-
-  pub few_some : n ≤ length xs → length (take n xs) ≡ n
-  few_some h = rw (length-take) (omega arith)
+pub not_same : (b : Bool) → bool.not b ≡ not b
+not_same true = refl
+not_same false = refl

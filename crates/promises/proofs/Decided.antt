@@ -4,13 +4,13 @@ use Prim.Native.Nat.{ℕ}
 use mathlib.Core.Path.{◌≡◌, refl}
 use mathlib.Core.List.{List, [], ◌∷◌, ◌++◌}
 use lib.Dec.{eqb}
+use Rattle.std.specs.Prelude as std
+use Rattle.std.specs.Prelude.{Ok, Err}
 use Rattle.choice.specs.Pick.{not}
 use Rattle.choice.specs.Rules.{Rule, ◌⇒◌}
 use Rattle.choice.proofs.Picks.{pick_cases, Kept, first_cases, Numbers, number_cases}
 use Rattle.headers.specs.declared.Part.{Part}
 use Rattle.elements.specs.declared.Stop.{Stop}
-use Rattle.elements.specs.declared.Read.{Read}
-use Rattle.elements.specs.declared.Read.TheVariants.{Past, Refused}
 use Rattle.strike.specs.Service.{DataSet, Result, fails, does}
 use Rattle.rules.specs.declared.Core.{Core}
 use Rattle.rules.specs.declared.Verdict.{Verdict}
@@ -37,13 +37,13 @@ kept_both [] b h = (tt, h)
 kept_both ((broken ⇒ n) ∷ a) b h = let r = kept_both a b h.1 in ((h.0, r.0), r.1)
 
 -- a verdict that stands unless the reading of the data set stopped
-stopped_cases : (P : Verdict → Type 0) (k : Core) (c : List ℕ) (r : Request) (x : Read) (v : Verdict) → ((stop : Stop) → x ≡ Refused stop → P (failed k c r (StoppedAt stop) 0x0110)) → P v → P (unless_stopped k c r x v)
-stopped_cases P k c r (Past q) v f g = g
-stopped_cases P k c r (Refused stop) v f g = f stop refl
+stopped_cases : (P : Verdict → Type 0) (k : Core) (c : List ℕ) (r : Request) (x : std.Result ℕ Stop) (v : Verdict) → ((stop : Stop) → x ≡ Err stop → P (failed k c r (StoppedAt stop) 0x0110)) → P v → P (unless_stopped k c r x v)
+stopped_cases P k c r (Ok q) v f g = g
+stopped_cases P k c r (Err stop) v f g = f stop refl
 
 -- What a request comes to: the first of checks 2 to 4 or of 6 to 10 that applies, where the reading stopped, or what it asks for.
 module _ (P : Verdict → Type 0) (k : Core) (c : List ℕ) (d : DataSet) (r : Request)
-    (stopped : (stop : Stop) → reading_of (syntax_in k) d.came d.bytes ≡ Refused stop → P (failed k c r (StoppedAt stop) 0x0110))
+    (stopped : (stop : Stop) → reading_of (syntax_in k) d.came d.bytes ≡ Err stop → P (failed k c r (StoppedAt stop) 0x0110))
     (done : Kept (plan_of k c d.bytes r.operation).rules → P (plan_of k c d.bytes r.operation).verdict) where
   pub numbered_cases : (Q : ℕ → Type 0) → Numbers Q (general_rules c d.came r.operation) → Numbers Q (plan_of k c d.bytes r.operation).rules → ((n : ℕ) → Q n → P (failed k c r NoNote n)) → P (decide_request k c d r)
   unfolding decide_request

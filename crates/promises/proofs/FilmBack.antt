@@ -7,6 +7,7 @@ use mathlib.Core.List.{List, [], ◌∷◌}
 use native.Mathlib.Omega.{arith}
 use lib.ListN.{length, get_or}
 use borrow.Author.Tests.{ltb-false}
+use Rattle.std.specs.Prelude.{Ok}
 use Rattle.octets.proofs.Laid.{Stands}
 use Rattle.uids.specs.Uids.{digits, component, components, is_uid, unpadded, made}
 use Rattle.uids.proofs.Made.{made_uid}
@@ -15,7 +16,6 @@ use Rattle.headers.specs.declared.Inside.{Inside}
 use Rattle.headers.specs.declared.Head.TheVariants.{Nest}
 use Rattle.tags.specs.Table.{SQ, UI}
 use Rattle.headers.specs.Header.{item_head_at}
-use Rattle.elements.specs.declared.Read.TheVariants.{Past}
 use Rattle.elements.specs.declared.Found.TheVariants.{Sequence}
 use Rattle.elements.specs.Reader.{sequence_end, data_set, scope_of}
 use Rattle.elements.specs.Find.{items_of, find_at}
@@ -142,7 +142,7 @@ box_at s syntax stop (at ∷ places) (uid ∷ uids) (suc i) m h = box_at s synta
 -- What the created film's data set says, read back from its bytes.
 pub record FilmMeans (b : List ℕ) (syntax : Syntax) (uids : List (List ℕ)) : Type 0 where
   -- the reader takes it whole
-  pub read : data_set b syntax ≡ Past (length b)
+  pub read : data_set b syntax ≡ Ok (length b)
   -- it finds the sequence
   pub inside : Inside
   pub found : look (listing_of b syntax) 0x2010_0510 ≡ Sequence inside

@@ -3,9 +3,9 @@
 use Prim.Native.Nat.{ℕ}
 use mathlib.Core.Path.{◌≡◌, refl, subst}
 use mathlib.Core.List.{List}
+use Rattle.std.specs.Prelude.{Err}
 use Rattle.choice.proofs.Picks.{Kept, first_kept}
 use Rattle.elements.specs.declared.Stop.{Stop}
-use Rattle.elements.specs.declared.Read.TheVariants.{Refused}
 use Rattle.headers.specs.declared.Syntax.{Syntax}
 use Rattle.strike.specs.Service.{DataSet}
 use Rattle.rules.specs.declared.Core.{Core}
@@ -35,7 +35,7 @@ abbrev Stopped : Syntax → DataSet → ℕ → Note → Type 0
 Stopped syntax d status NoNote = Unit {0}
 Stopped syntax d status (FilmsQueued n) = Unit {0}
 Stopped syntax d status (PictureAt n place size) = Unit {0}
-Stopped syntax d status (StoppedAt stop) = (status ≡ 0x0110) × (reading_of syntax d.came d.bytes ≡ Refused stop)
+Stopped syntax d status (StoppedAt stop) = (status ≡ 0x0110) × (reading_of syntax d.came d.bytes ≡ Err stop)
 
 abbrev PlanStopped : Syntax → DataSet → Plan → Type 0
 PlanStopped syntax d p = Stopped syntax d p.verdict.status p.verdict.note
@@ -98,12 +98,12 @@ module _ (k : Core) (c : List ℕ) (d : DataSet) where
   command_stopped (Known r) = request_stopped r
 
   -- Where a response tells of a stop, it is that of check 5, and the reading of the data set stopped there.
-  pub only_check_5 : {stop : Stop} → (reply_of (decide k c d)).note ≡ StoppedAt stop → ((reply_of (decide k c d)).status ≡ 0x0110) × (reading_of (syntax_in k) d.came d.bytes ≡ Refused stop)
+  pub only_check_5 : {stop : Stop} → (reply_of (decide k c d)).note ≡ StoppedAt stop → ((reply_of (decide k c d)).status ≡ 0x0110) × (reading_of (syntax_in k) d.came d.bytes ≡ Err stop)
   unfolding decide
   only_check_5 e = subst (Stopped (syntax_in k) d (reply_of (decide k c d)).status) e (command_stopped (understood c))
 
   -- Where checks 2 to 4 pass a request and the reading of its data set stopped, the response is 0110H and tells where.
-  pub check_5_tells : {stop : Stop} (r : Request) → understood c ≡ Known r → Kept (general_rules c d.came r.operation) → reading_of (syntax_in k) d.came d.bytes ≡ Refused stop
+  pub check_5_tells : {stop : Stop} (r : Request) → understood c ≡ Known r → Kept (general_rules c d.came r.operation) → reading_of (syntax_in k) d.came d.bytes ≡ Err stop
       → ((reply_of (decide k c d)).status ≡ 0x0110) × ((reply_of (decide k c d)).note ≡ StoppedAt stop)
   unfolding decide decide_request reply
   check_5_tells r u kept e = rw (u, reply_of_lem k c r (decide_request k c d r), first_kept _ (general_rules c d.came r.operation) _ kept, e) (refl, refl)

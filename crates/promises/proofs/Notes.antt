@@ -7,13 +7,13 @@ use mathlib.Core.List.{List, [], ◌∷◌}
 use native.Mathlib.Omega.{arith}
 use lib.ListN.{length}
 use borrow.Author.Tests.{eqb-false}
+use Rattle.std.specs.Prelude.{Err}
 use Rattle.choice.specs.Pick.{pick, both}
 use Rattle.choice.specs.Rules.{◌⇒◌}
 use Rattle.choice.proofs.Picks.{pick_cases, both_second, Kept, Numbers}
 use Rattle.headers.specs.declared.Syntax.{Syntax}
 use Rattle.headers.proofs.Within.{most_refusal}
 use Rattle.elements.specs.declared.Stop.{Stop}
-use Rattle.elements.specs.declared.Read.TheVariants.{Refused}
 use Rattle.elements.specs.Reader.{most_nested}
 use Rattle.elements.proofs.Stops.{stop_within}
 use Rattle.strike.specs.declared.Came.{Came}
@@ -71,7 +71,7 @@ abbrev ReplyTells : ℕ → Result Core Reply → Type 0
 ReplyTells bytes x = Tells bytes (reply_of x).status (reply_of x).note
 
 -- where the reading of a data set stopped
-stop_told : (syntax : Syntax) (came : Came) (d : List ℕ) {stop : Stop} → reading_of syntax came d ≡ Refused stop → NoteWithin (length d) (StoppedAt stop)
+stop_told : (syntax : Syntax) (came : Came) (d : List ℕ) {stop : Stop} → reading_of syntax came d ≡ Err stop → NoteWithin (length d) (StoppedAt stop)
 stop_told syntax Absent d e = let z : ◌≡◌ {A = ℕ} 0 1 = cc in absurd (omega arith)
 stop_told syntax Whole d e = stop_within d syntax e
 stop_told syntax TooLong d e = let z : ◌≡◌ {A = ℕ} 0 1 = cc in absurd (omega arith)

@@ -9,6 +9,7 @@ use native.Mathlib.Omega.{arith}
 use lib.Dec.{eqb}
 use lib.ListN.{length}
 use borrow.Author.Tests.{eq-eqb}
+use Rattle.std.specs.Prelude.{Ok}
 use Rattle.choice.specs.Pick.{pick, not}
 use Rattle.choice.proofs.Picks.{both_holds}
 use Rattle.octets.specs.Octets.{octets, number_at, part}
@@ -20,7 +21,6 @@ use Rattle.headers.specs.declared.Syntax.{Syntax}
 use Rattle.headers.specs.declared.Syntax.TheVariants.{Implicit}
 use Rattle.headers.specs.declared.Inside.{Inside}
 use Rattle.tags.specs.Table.{UI, UL, US}
-use Rattle.elements.specs.declared.Read.TheVariants.{Past}
 use Rattle.elements.specs.declared.Found.TheVariants.{Missing}
 use Rattle.elements.specs.Reader.{whole, data_set}
 use Rattle.writing.specs.Tree.{Elements, value}
@@ -258,7 +258,7 @@ type_told c d k = rw k.is (type_by (eqb (length d) 0))
 -- What a response says, read back from its bytes.
 pub record ResponseMeans (c : List ℕ) (says : Says) (status : ℕ) (d : List ℕ) : Type 0 where
   -- the reader takes it whole
-  pub read : data_set c Implicit ≡ Past (length c)
+  pub read : data_set c Implicit ≡ Ok (length c)
   -- (0000,0000) is there, 4 bytes, and equal to the bytes after it
   pub group : length_told c ≡ true
   pub class : UidMeant c 0x0000_0002 says.class

@@ -26,7 +26,7 @@ fn put_vr(out: &mut [u8], at: usize, vr: usize, size: usize) -> usize
     ensures { (out.new ≡ laid out.old at (vr_octets vr size)) × (result ≡ at + length (vr_octets vr size)) }
 {
     put_number(out, at, 2, vr as u64);
-    if form_of(vr) == 12 {
+    if form_of(vr) == Some(12) {
         put_number(out, at + 2, 2, 0);
         put_number(out, at + 4, 4, size as u64);
         return at + 8;
@@ -123,6 +123,7 @@ fn put_number_element(
     from + width
 }
 
+// One line for each VR: a generic one would be put_number_element.
 pub fn put_us(out: &mut [u8], at: usize, syntax: Syntax, tag: usize, x: u16) -> usize
     requires { at + length (element syntax tag US (octets 2 x)) ≤ length out.old }
     ensures { (out.new ≡ laid out.old at (element syntax tag US (octets 2 x))) × (result ≡ at + length (element syntax tag US (octets 2 x))) }

@@ -1,10 +1,10 @@
 -- A text, an array of bytes, is the bytes of its place: its first ones, and those behind them.
 -- Assumes nothing.
 use Prim.Native.Nat.{ℕ, ◌+◌, ◌-◌, ◌≤◌}
-use mathlib.Core.Path.{◌≡◌, sym, ap, ◌∙◌, subst}
+use mathlib.Core.Path.{◌≡◌, sym, ap, ◌∙◌}
 use mathlib.Core.List.{List}
 use native.Mathlib.Omega.{arith}
-use lib.ListN.{length, get_or, take, drop, length-drop, take-append-drop}
+use lib.ListN.{length, get_or, take, drop, length-drop}
 use lib.Seq.{length-take-le, take-take, take-add, drop_at, drop-drop}
 use Rattle.octets.specs.Octets.{part}
 use Rattle.fields.specs.Format.{byte, array}
@@ -17,10 +17,8 @@ use Rattle.records.specs.Places.{numbers_in}
 module _ (b : List ℕ) (p n : ℕ) (h : p + n ≤ length b) where
   whole : (array n byte).read b p ≡ take n (drop p b)
   whole =
-      let t = take n (drop p b) in
-      let l : length t ≡ n = length-take-le n (drop p b) (omega (arith, length-drop p b)) in
-      let e : p + length t - p ≡ n = omega arith in
-      sym (subst (λ k. t ≡ (array k byte).read b p) l (copied_out b t t p (omega arith) (rw e)))
+      let e : p + n - p ≡ n = omega arith in
+      sym (copied_out b (take n (drop p b)) p n h (rw e))
 
   pub text_front : (k : ℕ) → k ≤ n → take k ((array n byte).read b p) ≡ part b p (p + k)
   text_front k l =

@@ -5,6 +5,8 @@ use mathlib.Core.Path.{◌≡◌, refl, ap, ◌∙◌}
 use mathlib.Core.Bool.{Bool, true, false}
 use mathlib.Core.List.{List, [], ◌++◌, append_assoc, append-nil}
 use mathlib.Core.Option.{none, some}
+use Rattle.std.specs.Prelude as declared
+use Rattle.std.specs.Prelude.{Some, None}
 use native.Mathlib.Omega.{arith}
 use lib.Dec.{eqb}
 use lib.ListN.{length, length-append}
@@ -57,18 +59,9 @@ pub uid_some : (tag : ℕ) (uid : List ℕ) → (length uid ≡ 0 → ⊥) → u
 unfolding uid_bytes
 uid_some tag uid e = rw (ne_eqb _ _ e)
 
-pub action_some : (acts : Bool) (kind : ℕ) → acts ≡ true → action_bytes acts kind ≡ number_bytes 0x0000_1008 kind
-unfolding action_bytes
-action_some acts kind e = rw e
-
-pub action_none : (acts : Bool) (kind : ℕ) → acts ≡ false → action_bytes acts kind ≡ []
-unfolding action_bytes
-action_none acts kind e = rw e
-
-pub action_size : (acts : Bool) (kind : ℕ) → length (action_bytes acts kind) ≤ 10
-unfolding action_bytes
-action_size true kind = omega (arith, number_size 0x0000_1008 kind)
-action_size false kind = omega arith
+pub action_size : (action : declared.Option ℕ) → length (action_bytes action) ≤ 10
+action_size (Some kind) = omega (arith, number_size 0x0000_1008 kind)
+action_size None = omega arith
 
 uid_told : (tag : ℕ) (uid : List ℕ) (more : Elements) (none? : Bool)
     → written Implicit (uid_element tag (pick none? none (some uid)) more) ≡ pick none? [] (element Implicit tag UI uid) ++ written Implicit more
@@ -80,10 +73,10 @@ uid_written : (tag : ℕ) (uid : List ℕ) (more : Elements) → written Implici
 unfolding uid_bytes
 uid_written tag uid more = uid_told tag uid more (eqb (length uid) 0)
 
-action_written : (acts : Bool) (kind : ℕ) → written Implicit (action_element (action_by acts kind)) ≡ action_bytes acts kind
-unfolding written action_bytes
-action_written true kind = append-nil (number_bytes 0x0000_1008 kind)
-action_written false kind = refl
+action_written : (action : declared.Option ℕ) → written Implicit (action_element (action_by action)) ≡ action_bytes action
+unfolding written
+action_written (Some kind) = append-nil (number_bytes 0x0000_1008 kind)
+action_written None = refl
 
 -- a response tells of its data set only whether there is one
 pub data_shown_lem : (says : Says) (status : ℕ) (d : List ℕ) (withData : Bool) → eqb (length d) 0 ≡ not withData
@@ -92,22 +85,22 @@ unfolding response_tree response_elements
 data_shown_lem says status d true e = rw e
 data_shown_lem says status d false e = rw e
 
-module _ (class : List ℕ) (field message : ℕ) (withData : Bool) (status : ℕ) (instance : List ℕ) (acts : Bool) (kind : ℕ) where
-  said : written Implicit (response_elements (says_by class field message instance acts kind) status (data_shown withData))
-      ≡ said_first class field message ++ said_then withData status instance acts kind
+module _ (class : List ℕ) (field message : ℕ) (withData : Bool) (status : ℕ) (instance : List ℕ) (action : declared.Option ℕ) where
+  said : written Implicit (response_elements (says_by class field message instance action) status (data_shown withData))
+      ≡ said_first class field message ++ said_then withData status instance action
   unfolding written response_elements says_by said_first said_then
   said = rw (uid_written, uid_written, action_written) (simp append_assoc)
 
   pub response_laid : (s m n o : List ℕ) (p stop : ℕ) → 256 ≤ length s
       → m ≡ laid s 12 (said_first class field message) → p ≡ 12 + length (said_first class field message) → p ≤ 104
-      → n ≡ laid m p (said_then withData status instance acts kind) → stop ≡ p + length (said_then withData status instance acts kind) → stop ≤ p + 102
+      → n ≡ laid m p (said_then withData status instance action) → stop ≡ p + length (said_then withData status instance action) → stop ≤ p + 102
       → o ≡ laid n 0 (element Implicit 0x0000_0000 UL (octets 4 (stop - 12)))
-      → (o ≡ laid s 0 (written Implicit (response_tree (says_by class field message instance acts kind) status (data_shown withData))))
-      × (stop ≡ length (written Implicit (response_tree (says_by class field message instance acts kind) status (data_shown withData))))
+      → (o ≡ laid s 0 (written Implicit (response_tree (says_by class field message instance action) status (data_shown withData))))
+      × (stop ≡ length (written Implicit (response_tree (says_by class field message instance action) status (data_shown withData))))
   unfolding written response_tree
   response_laid s m n o p stop h em ep bp en es bs eo =
       let first = said_first class field message in
-      let then = said_then withData status instance acts kind in
+      let then = said_then withData status instance action in
       let all = length-append first then in
       let size : stop - 12 ≡ length (first ++ then) = omega arith in
       let l = group_length_size (length (first ++ then)) in

@@ -1,5 +1,6 @@
 -- The parts that a response, the created film's data set and the report are written in.
-use Rattle.std.specs.Prelude.{ℕ, ◌+◌, Bool, true, false, List, [], ◌∷◌, ◌++◌, map, eqb, length}
+use Rattle.std.specs.Prelude as declared
+use Rattle.std.specs.Prelude.{ℕ, ◌+◌, Bool, true, false, Some, None, List, [], ◌∷◌, ◌++◌, map, eqb, length}
 use Rattle.std.proofs.Math.Option.{Option, none, some}
 use Rattle.choice.specs.Pick.{pick}
 use Rattle.octets.specs.Octets.{octets}
@@ -18,16 +19,17 @@ use Rattle.rules.specs.Responses.{Says, data_set_type, box_items}
 abbrev pub given : List ℕ → Option (List ℕ)
 given uid = pick (eqb (length uid) 0) none (some uid)
 
-abbrev pub action_by : Bool → ℕ → Option ℕ
-action_by acts kind = pick acts (some kind) none
+abbrev pub action_by : declared.Option ℕ → Option ℕ
+action_by (Some kind) = some kind
+action_by None = none
 
-unfoldable pub says_by : List ℕ → ℕ → ℕ → List ℕ → Bool → ℕ → Says
-says_by class field message instance acts kind = record {
+unfoldable pub says_by : List ℕ → ℕ → ℕ → List ℕ → declared.Option ℕ → Says
+says_by class field message instance action = record {
   class = given class;
   field = field;
   message = message;
   instance = given instance;
-  action = action_by acts kind;
+  action = action_by action;
 }
 
 -- a response's command tells of its data set only whether there is one
@@ -43,8 +45,9 @@ number_bytes tag n = element Implicit tag US (octets 2 n)
 unfoldable pub uid_bytes : ℕ → List ℕ → List ℕ
 uid_bytes tag uid = pick (eqb (length uid) 0) [] (element Implicit tag UI uid)
 
-unfoldable pub action_bytes : Bool → ℕ → List ℕ
-action_bytes acts kind = pick acts (number_bytes 0x0000_1008 kind) []
+abbrev pub action_bytes : declared.Option ℕ → List ℕ
+action_bytes (Some kind) = number_bytes 0x0000_1008 kind
+action_bytes None = []
 
 -- class, field and message number
 unfoldable pub said_first : List ℕ → ℕ → ℕ → List ℕ
@@ -52,10 +55,10 @@ said_first class field message =
     uid_bytes 0x0000_0002 class ++ (number_bytes 0x0000_0100 (field + 0x8000) ++ number_bytes 0x0000_0120 message)
 
 -- data set type, status, instance and action type
-unfoldable pub said_then : Bool → ℕ → List ℕ → Bool → ℕ → List ℕ
-said_then withData status instance acts kind =
+unfoldable pub said_then : Bool → ℕ → List ℕ → declared.Option ℕ → List ℕ
+said_then withData status instance action =
     number_bytes 0x0000_0800 (data_set_type (data_shown withData))
-    ++ (number_bytes 0x0000_0900 status ++ (uid_bytes 0x0000_1000 instance ++ action_bytes acts kind))
+    ++ (number_bytes 0x0000_0900 status ++ (uid_bytes 0x0000_1000 instance ++ action_bytes action))
 
 -- The created film's data set: an item's list, the item of a box, and the items of as many boxes as are asked for.
 

@@ -17,6 +17,16 @@ use octets::put_number;
 use putting::{put_element, put_header, put_item, put_ul, put_us};
 use tags::{SQ, UI};
 
+// What a response says; an empty class or instance is left out, and so is no action type. Empty stands for none, as in the records.
+#[derive(Clone, Copy)]
+pub struct Says<'a> {
+    pub class: &'a [u8],
+    pub field: u16,
+    pub message: u16,
+    pub instance: &'a [u8],
+    pub action: Option<u16>,
+}
+
 const GROUP_LENGTH: usize = 0x0000_0000;
 
 const CLASS: usize = 0x0000_0002;
@@ -59,14 +69,14 @@ fn put_uid(out: &mut [u8], at: usize, tag: usize, uid: &[u8]) -> usize
 }
 
 // The action type, where there is one: the place after it.
-fn put_action(out: &mut [u8], at: usize, acts: bool, kind: u16) -> usize
+fn put_action(out: &mut [u8], at: usize, action: Option<u16>) -> usize
     requires { at + 10 ≤ length out.old }
-    ensures { (out.new ≡ laid out.old at (action_bytes acts kind)) × (result ≡ at + length (action_bytes acts kind)) }
+    ensures { (out.new ≡ laid out.old at (action_bytes action)) × (result ≡ at + length (action_bytes action)) }
 {
-    if acts {
-        return put_short(out, at, ACTION, kind);
+    match action {
+        Some(kind) => put_short(out, at, ACTION, kind),
+        None => at,
     }
-    at
 }
 
 // "field plus 8000H", in two bytes
@@ -80,10 +90,7 @@ fn response_field(field: u16) -> u16
 fn data_set_type(with_data: bool) -> u16
     ensures { result ≡ data_set_type (data_shown with_data) }
 {
-    if with_data {
-        return 0x0001;
-    }
-    0x0101
+    if with_data { 0x0001 } else { 0x0101 }
 }
 
 // Class, field and message number, behind the group length: the place after them.
@@ -103,35 +110,24 @@ fn put_said_then(
     with_data: bool,
     status: u16,
     instance: &[u8],
-    acts: bool,
-    kind: u16,
+    action: Option<u16>,
 ) -> usize
     requires { (at + 102 ≤ length out.old) × (length instance.now ≤ 64) }
-    ensures { (out.new ≡ laid out.old at (said_then with_data status instance.now acts kind)) × (result ≡ at + length (said_then with_data status instance.now acts kind)) × (result ≤ at + 102) }
+    ensures { (out.new ≡ laid out.old at (said_then with_data status instance.now action)) × (result ≡ at + length (said_then with_data status instance.now action)) × (result ≤ at + 102) }
 {
     let p = put_short(out, at, DATA_SET_TYPE, data_set_type(with_data));
     let q = put_short(out, p, STATUS, status);
     let r = put_uid(out, q, INSTANCE, instance);
-    put_action(out, r, acts, kind)
+    put_action(out, r, action)
 }
 
-// A response's command set; an empty class or instance is left out. The group length goes in last, since it counts what follows it.
-pub fn put_response(
-    out: &mut [u8],
-    class: &[u8],
-    field: u16,
-    message: u16,
-    with_data: bool,
-    status: u16,
-    instance: &[u8],
-    acts: bool,
-    kind: u16,
-) -> usize
-    requires { (256 ≤ length out.old) × (length class.now ≤ 64) × (length instance.now ≤ 64) }
-    ensures { (out.new ≡ laid out.old 0 (written Implicit (response_tree (says_by class.now field message instance.now acts kind) status (data_shown with_data)))) × (result ≡ length (written Implicit (response_tree (says_by class.now field message instance.now acts kind) status (data_shown with_data)))) }
+// A response's command set. The group length goes in last, since it counts what follows it.
+pub fn put_response(out: &mut [u8], says: Says, with_data: bool, status: u16) -> usize
+    requires { (256 ≤ length out.old) × (length says.class.now ≤ 64) × (length says.instance.now ≤ 64) }
+    ensures { (out.new ≡ laid out.old 0 (written Implicit (response_tree (says_by says.entry.class.now says.entry.field says.entry.message says.entry.instance.now says.entry.action) status (data_shown with_data)))) × (result ≡ length (written Implicit (response_tree (says_by says.entry.class.now says.entry.field says.entry.message says.entry.instance.now says.entry.action) status (data_shown with_data)))) }
 {
-    let p = put_said_first(out, class, field, message);
-    let stop = put_said_then(out, p, with_data, status, instance, acts, kind);
+    let p = put_said_first(out, says.class, says.field, says.message);
+    let stop = put_said_then(out, p, with_data, status, says.instance, says.action);
     put_ul(out, 0, Syntax::Implicit, GROUP_LENGTH, (stop - 12) as u32);
     stop
 }
@@ -177,10 +173,8 @@ fn put_boxes(
     ensures { (out.new ≡ laid out.old at (boxes_bytes syntax root.now first count)) × (result ≡ at + length (boxes_bytes syntax root.now first count)) × (result ≤ at + 98 * count) }
 {
     let mut p = at;
-    let mut i = 0;
-    while i < count {
+    for i in 0..count {
         p = put_box(out, p, syntax, root, first + i as u32);
-        i += 1;
     }
     p
 }
@@ -212,25 +206,25 @@ pub fn put_film_boxes(
     stop
 }
 
-// The report: status, lengths of command and data set, and a note's kind with its three numbers.
-pub fn put_report(
-    out: &mut [u8],
-    status: u16,
-    command: usize,
-    size: usize,
-    kind: u16,
-    first: usize,
-    second: usize,
-    third: usize,
-)
+// A note as the report has it for C: its kind and three numbers.
+#[derive(Clone, Copy)]
+pub struct NoteNumbers {
+    pub kind: u16,
+    pub first: usize,
+    pub second: usize,
+    pub third: usize,
+}
+
+// The report: status, lengths of command and data set, and a note.
+pub fn put_report(out: &mut [u8], status: u16, command: usize, size: usize, note: NoteNumbers)
     requires { 20 ≤ length out.old }
-    ensures { out.new ≡ laid out.old 0 (report_by status command size kind first second third) }
+    ensures { out.new ≡ laid out.old 0 (report_by status command size note.kind note.first note.second note.third) }
 {
     put_number(out, 0, 2, status as u64);
     put_number(out, 2, 2, command as u64);
     put_number(out, 4, 2, size as u64);
-    put_number(out, 6, 2, kind as u64);
-    put_number(out, 8, 4, first as u64);
-    put_number(out, 12, 4, second as u64);
-    put_number(out, 16, 4, third as u64);
+    put_number(out, 6, 2, note.kind as u64);
+    put_number(out, 8, 4, note.first as u64);
+    put_number(out, 12, 4, note.second as u64);
+    put_number(out, 16, 4, note.third as u64);
 }

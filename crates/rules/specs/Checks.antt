@@ -1,5 +1,6 @@
 -- Requests, rules 6.1 to 6.11, 6.18 to 6.22: status checks 1 to 11, first that applies, and what is done where none of 1 to 10 does.
-use Rattle.std.specs.Prelude.{ℕ, Bool, true, false, List, [], ◌∷◌, ◌++◌, eqb, ltb, length}
+use Rattle.std.specs.Prelude.{ℕ, Bool, true, false, List, [], ◌∷◌, ◌++◌, eqb, ltb, length, Some, None, Ok, Err}
+use Rattle.std.specs.Prelude as std
 use Rattle.std.proofs.Math.Option.{Option, none, some}
 use Rattle.choice.specs.Pick.{pick, both, either, not}
 use Rattle.choice.specs.Rules.{Rule, ◌⇒◌, first_or}
@@ -7,8 +8,7 @@ use Rattle.octets.specs.Octets.{same}
 use Rattle.uids.specs.Uids.{is_uid, begins_with}
 use Rattle.headers.specs.declared.Syntax.{Syntax}
 use Rattle.headers.specs.declared.Part.{Part}
-use Rattle.elements.specs.declared.Read.{Read}
-use Rattle.elements.specs.declared.Read.TheVariants.{Past, Refused}
+use Rattle.elements.specs.declared.Stop.{Stop}
 use Rattle.elements.specs.Reader.{data_set}
 use Rattle.strike.specs.declared.Came.{Came}
 use Rattle.strike.specs.declared.Came.TheVariants.{Absent, Whole, TooLong}
@@ -17,8 +17,7 @@ use Rattle.rules.specs.declared.ImageBox.{ImageBox}
 use Rattle.rules.specs.declared.Film.{Film}
 use Rattle.rules.specs.declared.Name.{Name}
 use Rattle.rules.specs.declared.Core.{Core}
-use Rattle.rules.specs.declared.Contents.{Contents}
-use Rattle.rules.specs.declared.Contents.TheVariants.{Nothing, NewBoxes}
+use Rattle.rules.specs.declared.NewBoxes.{NewBoxes}
 use Rattle.rules.specs.declared.Verdict.{Verdict}
 use Rattle.rules.specs.declared.Class.{Class}
 use Rattle.rules.specs.declared.Class.TheVariants.{Verification, Sessions, Films, Boxes, UnknownClass}
@@ -96,10 +95,10 @@ is_too_long Whole = false
 is_too_long TooLong = true
 
 -- what the reader says of a data set; there is nothing to read where none came, or it was not kept
-abbrev pub reading_of : Syntax → Came → List ℕ → Read
-reading_of syntax Absent d = Past 0
+abbrev pub reading_of : Syntax → Came → List ℕ → std.Result ℕ Stop
+reading_of syntax Absent d = Ok 0
 reading_of syntax Whole d = data_set d syntax
-reading_of syntax TooLong d = Past 0
+reading_of syntax TooLong d = Ok 0
 
 -- Checks 2 to 4.
 
@@ -193,7 +192,7 @@ film_print_rules k i =
 -- What is done, and check 11.
 
 abbrev pub quietly : Core → Name → Verdict
-quietly k name = record { done = true; status = 0x0000; core = k; instance = name; note = NoNote; contents = Nothing }
+quietly k name = record { done = true; status = 0x0000; core = k; instance = name; note = NoNote; contents = None }
 
 abbrev pub printed_with : Core → ℕ → List Film → Name → Verdict
 printed_with k warning printing name = record {
@@ -202,7 +201,7 @@ printed_with k warning printing name = record {
   core = printed k printing;
   instance = name;
   note = FilmsQueued (length printing);
-  contents = Nothing;
+  contents = None;
 }
 
 -- the rules of an operation on what it names, and what it comes to where none is broken
@@ -219,8 +218,8 @@ sent_uid c sent = pick (is_sent sent) (uid_at c sent) []
 abbrev pub new_uid : Core → List ℕ → List ℕ
 new_uid k sent = uid_of k.numbers (name_from k.numbers sent)
 
-abbrev pub boxes_in : Film → Contents
-boxes_in f = NewBoxes f.first.0 (box_count f.layout)
+abbrev pub boxes_in : Film → std.Option NewBoxes
+boxes_in f = Some (record { first = f.first.0; count = box_count f.layout })
 
 unfoldable pub create_plan : Core → Class → List ℕ → Listing → Plan
 create_plan k Verification sent l = nothing k
@@ -263,7 +262,7 @@ set_plan k (TheBox i j) name l = record {
     core = box_set k i j l;
     instance = name;
     note = image_note k l (image_in l);
-    contents = Nothing;
+    contents = None;
   };
 }
 
@@ -325,7 +324,7 @@ failed k c r note status = record {
   core = k;
   instance = failed_name c r.operation;
   note = note;
-  contents = Nothing;
+  contents = None;
 }
 
 -- the first rule that is broken fails, and where none is the plan holds
@@ -333,9 +332,9 @@ abbrev pub decided_by : Core → List ℕ → Request → Plan → Verdict
 decided_by k c r plan = first_or (failed k c r NoNote) plan.rules plan.verdict
 
 -- Check 5: a data set that is not read fails, and the note says where the reading stopped
-abbrev pub unless_stopped : Core → List ℕ → Request → Read → Verdict → Verdict
-unless_stopped k c r (Past q) v = v
-unless_stopped k c r (Refused stop) v = failed k c r (StoppedAt stop) 0x0110
+abbrev pub unless_stopped : Core → List ℕ → Request → std.Result ℕ Stop → Verdict → Verdict
+unless_stopped k c r (Ok q) v = v
+unless_stopped k c r (Err stop) v = failed k c r (StoppedAt stop) 0x0110
 
 unfoldable pub decide_request : Core → List ℕ → DataSet → Request → Verdict
 decide_request k c d r =

@@ -1,13 +1,12 @@
 -- Requests, rules 6.12 to 6.17: readable commands, and the request that one is.
-use Rattle.std.specs.Prelude.{ℕ, ◌-◌, Bool, true, false, List, eqb, ltb, length}
+use Rattle.std.specs.Prelude.{ℕ, ◌-◌, Bool, true, false, List, eqb, ltb, length, Result, Ok, Err}
 use Rattle.choice.specs.Pick.{pick, both, not}
 use Rattle.octets.specs.Octets.{number_at, part}
 use Rattle.uids.specs.Uids.{is_uid, unpadded}
 use Rattle.headers.specs.declared.Syntax.TheVariants.{Implicit}
 use Rattle.headers.specs.declared.Part.{Part}
 use Rattle.headers.specs.Header.{tag_at}
-use Rattle.elements.specs.declared.Read.{Read}
-use Rattle.elements.specs.declared.Read.TheVariants.{Past, Refused}
+use Rattle.elements.specs.declared.Stop.{Stop}
 use Rattle.elements.specs.declared.Found.{Found}
 use Rattle.elements.specs.declared.Found.TheVariants.{Missing, Value, Sequence}
 use Rattle.elements.specs.Reader.{start, whole, data_set, data_scope}
@@ -51,9 +50,9 @@ number_in c tag = number_at 2 c (placed (in_command c tag)).from
 abbrev pub has_uid : List ℕ → ℕ → Bool
 has_uid c tag = is_uid (uid_at c (placed (in_command c tag)))
 
-abbrev pub is_read : Read → Bool
-is_read (Past q) = true
-is_read (Refused stop) = false
+abbrev pub is_read : Result ℕ Stop → Bool
+is_read (Ok q) = true
+is_read (Err stop) = false
 
 -- "elements all in group 0000"
 unfoldable pub group_zero : List ℕ → Bool

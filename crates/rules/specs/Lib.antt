@@ -8,6 +8,7 @@ pub mod Commands
 pub mod Attributes
 pub mod Responses
 pub mod Effects
+pub mod Failures
 pub mod Checks
 pub mod Sound
 pub mod Calls

@@ -1,5 +1,6 @@
 -- Requests, rules 6.20 to 6.23: the response, and the created film's data set.
-use Rattle.std.specs.Prelude.{ℕ, ◌+◌, ◌≤◌, Bool, List, [], ◌∷◌, eqb, length}
+use Rattle.std.specs.Prelude.{ℕ, ◌+◌, ◌≤◌, Bool, List, [], ◌∷◌, eqb, length, Some, None}
+use Rattle.std.specs.Prelude as std
 use Rattle.std.proofs.Math.Option.{Option, none, some}
 use Rattle.choice.specs.Pick.{pick, either, not}
 use Rattle.octets.specs.Octets.{octets}
@@ -9,8 +10,7 @@ use Rattle.writing.specs.Tree.{Elements, no_elements, value, sequence, Items, no
 use Rattle.writing.specs.Bytes.{written}
 use Rattle.rules.specs.declared.Core.{Core}
 use Rattle.rules.specs.declared.Note.{Note}
-use Rattle.rules.specs.declared.Contents.{Contents}
-use Rattle.rules.specs.declared.Contents.TheVariants.{Nothing, NewBoxes}
+use Rattle.rules.specs.declared.NewBoxes.{NewBoxes}
 use Rattle.rules.specs.Bounds.{most_boxes, none_left}
 use Rattle.rules.specs.Text.{box_class}
 use Rattle.rules.specs.Records.{uids_from, syntax_in}
@@ -78,11 +78,11 @@ unfoldable pub film_tree : List (List ℕ) → Elements
 film_tree uids = sequence 0x2010_0510 (box_items uids) no_elements
 
 -- the boxes of one film, with serials of 32 bits
-abbrev pub ContentsFit : Contents → Type 0
-ContentsFit Nothing = Unit {0}
-ContentsFit (NewBoxes first count) = (count ≤ most_boxes) × (first + count ≤ none_left)
+abbrev pub ContentsFit : std.Option NewBoxes → Type 0
+ContentsFit None = Unit {0}
+ContentsFit (Some boxes) = (boxes.count ≤ most_boxes) × (boxes.first + boxes.count ≤ none_left)
 
 -- "Only a created film has data": the answer's data set, in the open's syntax
-abbrev pub data_set_of : Core → Contents → List ℕ
-data_set_of k Nothing = []
-data_set_of k (NewBoxes first count) = written (syntax_in k) (film_tree (uids_from k.numbers first count))
+abbrev pub data_set_of : Core → std.Option NewBoxes → List ℕ
+data_set_of k None = []
+data_set_of k (Some boxes) = written (syntax_in k) (film_tree (uids_from k.numbers boxes.first boxes.count))

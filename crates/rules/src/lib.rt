@@ -1,5 +1,9 @@
-// The book of printing: the types of the records and of requests. Its definitions stand in specs/; it has no code.
+// The book of printing: the types of the records and of requests. Its definitions stand in specs/; its only code is the numbers
+// of failures and refusals.
 #![tactic(auto)]
+
+ghost use Rattle.std.specs.Prelude.{◌≡◌};
+ghost use Rattle.rules.specs.Failures.{number_of, status_of};
 
 use elements::Stop;
 use headers::{Inside, Part};
@@ -21,6 +25,8 @@ pub const ROOT: usize = 40;
 pub const LINES: usize = 6;
 
 pub const COMMAND: usize = 1024;
+
+// The fields of the records are numbers as they stand in bytes, and no enums: until its rules are tested a byte may be any.
 
 // "a film or box serial must not be read as a picture number"
 #[derive(Clone, Copy)]
@@ -236,15 +242,15 @@ pub enum Note {
     StoppedAt(Stop),
 }
 
-// What the data set of an answer holds: nothing, or the boxes of a created film, by the first's serial.
+// The boxes of a created film, which its answer's data set holds: the first's serial, and how many there are.
 #[derive(Clone, Copy)]
-pub enum Contents {
-    Nothing,
-    NewBoxes { first: u32, count: u8 },
+pub struct NewBoxes {
+    pub first: u32,
+    pub count: u8,
 }
 
 // What a request comes to: done or failed, the status, the core afterwards, the instance that the response names (none where it has no
-// characters), the note, and what the answer's data set holds.
+// characters), the note, and the boxes that the answer's data set holds.
 #[derive(Clone, Copy)]
 pub struct Verdict {
     pub done: bool,
@@ -252,5 +258,79 @@ pub struct Verdict {
     pub core: Core,
     pub instance: Name,
     pub note: Note,
-    pub contents: Contents,
+    pub contents: Option<NewBoxes>,
+}
+
+// What a request fails for.
+#[derive(Clone, Copy, PartialEq, Eq)]
+pub enum Failure {
+    WrongValue,
+    NotRead,
+    DuplicateInstance,
+    NoSuchInstance,
+    InvalidInstance,
+    NoSuchClass,
+    OtherClass,
+    MissingAttribute,
+    MissingValue,
+    NoSuchAction,
+    NotOffered,
+    NoRoom,
+    NoFilms,
+    NoRoomForFilms,
+    NoRoomForFilm,
+    SamePosition,
+}
+
+// Its status.
+impl From<Failure> for u16 {
+    ghost from_gives = { λ failure n. n ≡ status_of failure };
+
+    fn from(failure: Failure) -> u16 {
+        match failure {
+            Failure::WrongValue => 0x0106,
+            Failure::NotRead => 0x0110,
+            Failure::DuplicateInstance => 0x0111,
+            Failure::NoSuchInstance => 0x0112,
+            Failure::InvalidInstance => 0x0117,
+            Failure::NoSuchClass => 0x0118,
+            Failure::OtherClass => 0x0119,
+            Failure::MissingAttribute => 0x0120,
+            Failure::MissingValue => 0x0121,
+            Failure::NoSuchAction => 0x0123,
+            Failure::NotOffered => 0x0211,
+            Failure::NoRoom => 0x0213,
+            Failure::NoFilms => 0xC600,
+            Failure::NoRoomForFilms => 0xC601,
+            Failure::NoRoomForFilm => 0xC602,
+            Failure::SamePosition => 0xC604,
+        }
+    }
+}
+
+// What a call is refused for.
+#[derive(Clone, Copy, PartialEq, Eq)]
+pub enum Refusal {
+    Broken,
+    Short,
+    BadArgument,
+    NotOpen,
+    BadFragment,
+    QueueEmpty,
+}
+
+// The number that it returns.
+impl From<Refusal> for u32 {
+    ghost from_gives = { λ refusal n. n ≡ number_of refusal };
+
+    fn from(refusal: Refusal) -> u32 {
+        match refusal {
+            Refusal::Broken => 1,
+            Refusal::Short => 2,
+            Refusal::BadArgument => 3,
+            Refusal::NotOpen => 4,
+            Refusal::BadFragment => 5,
+            Refusal::QueueEmpty => 6,
+        }
+    }
 }

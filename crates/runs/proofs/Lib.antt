@@ -6,6 +6,8 @@ pub mod Buffers
 pub mod Refusals
 pub mod Stored
 -- Each call does what the machine does: start over any bytes, the others over good records and over useless bytes.
+pub mod Front
+pub mod Longer
 pub mod Begins
 pub mod Opens
 pub mod Takes

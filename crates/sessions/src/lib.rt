@@ -9,19 +9,13 @@ ghost use Rattle.rules.specs.Sound.{between, session_sound, session_place_sound}
 ghost use Rattle.records.specs.Places.{numbers_in};
 ghost use Rattle.sessions.specs.Labels.{label_sound};
 
-use records::{NAME, SESSION};
+use records::{NAME, Records, SESSION};
 use rules::TEXT;
 
 pub fn copies_allowed(copies: u8) -> bool
     ensures { result ≡ between 1 99 copies }
 {
-    if copies < 1 {
-        return false;
-    }
-    if 99 < copies {
-        return false;
-    }
-    true
+    (1..=99).contains(&copies)
 }
 
 // Whether no space stands before or behind a text.
@@ -36,23 +30,19 @@ fn label_sound(b: &[u8], at: usize) -> bool
     requires { at + 65 ≤ length b.now }
     ensures { result ≡ label_sound b.now at }
 {
-    let used = b[at] as usize;
+    let used = usize::from(b[at]);
     if TEXT < used {
         return false;
     }
     let text = at + 1;
     let stop = text + used;
-    if !texts::label_allowed(&b[text..stop]) {
-        return false;
-    }
-    if !is_trimmed(&b[text..stop]) {
-        return false;
-    }
-    names::zeros_in(b, stop, text + TEXT)
+    texts::label_allowed(&b[text..stop])
+        && is_trimmed(&b[text..stop])
+        && names::zeros_in(b, stop, text + TEXT)
 }
 
-fn session_sound(b: &[u8], p: usize) -> bool
-    requires { (numbers_size ≤ length b.now) × (p + session_size ≤ length b.now) }
+fn session_sound(b: &Records, p: usize) -> bool
+    requires { p + session_size ≤ length b.now }
     ensures { result ≡ session_sound (numbers_in b.now) (session_format.read b.now p) }
 {
     let name = p + 1;
@@ -79,8 +69,8 @@ fn session_sound(b: &[u8], p: usize) -> bool
 }
 
 // A place for a session, live or blank.
-pub fn session_place_sound(b: &[u8], p: usize) -> bool
-    requires { (numbers_size ≤ length b.now) × (p + session_size ≤ length b.now) }
+pub fn session_place_sound(b: &Records, p: usize) -> bool
+    requires { p + session_size ≤ length b.now }
     ensures { result ≡ session_place_sound (numbers_in b.now) (session_format.read b.now p) }
 {
     let live = b[p];

@@ -1,14 +1,14 @@
 -- What an N-SET may rest on where its rules are kept, and what its verdicts mean.
 -- Assumes nothing.
 use Prim.Native.Nat.{ℕ, ◌+◌, ◌-◌, ◌<◌, ◌≤◌}
-use mathlib.Core.Path.{◌≡◌, refl, sym, ap, ◌∙◌}
-use mathlib.Core.Bool as bool
+use mathlib.Core.Path.{◌≡◌, refl, sym, ap, subst, ◌∙◌}
 use mathlib.Core.Bool.{Bool, true, false}
 use mathlib.Core.List.{List, [], ◌∷◌}
 use native.Mathlib.Omega.{arith}
 use lib.Dec.{eqb}
 use lib.ListN.{length, get_or}
 use borrow.Author.Tests.{eqb-true, eq-eqb, ne_eqb}
+use Rattle.std.specs.Prelude.{Result, Err}
 use Rattle.choice.specs.Pick.{pick, both}
 use Rattle.choice.specs.Rules.{Rule, ◌⇒◌, first_broken, numbered}
 use Rattle.choice.proofs.Picks.{clash, both_second}
@@ -21,7 +21,8 @@ use Rattle.rules.specs.declared.ImageBox.{ImageBox}
 use Rattle.rules.specs.declared.Film.{Film}
 use Rattle.rules.specs.declared.Core.{Core}
 use Rattle.rules.specs.declared.Verdict.{Verdict}
-use Rattle.rules.specs.declared.Request.{Request}
+use Rattle.rules.specs.declared.Failure.{Failure}
+use Rattle.rules.specs.Failures.{status_of}
 use Rattle.rules.specs.declared.Target.{Target}
 use Rattle.rules.specs.declared.Operation.TheVariants.{Set}
 use Rattle.rules.specs.Bounds.{most_boxes, none_left}
@@ -33,9 +34,9 @@ use Rattle.rules.specs.Attributes.{Listing, listing_of, pixels, us, attribute_ru
 use Rattle.rules.specs.Sound.{core_sound, film_sound}
 use Rattle.rules.specs.declared.Note.{Note}
 use Rattle.rules.specs.declared.Note.TheVariants.{NoNote, PictureAt}
-use Rattle.rules.specs.declared.Contents.TheVariants.{Nothing}
+use Rattle.std.specs.Prelude.{None}
 use Rattle.rules.specs.Effects.{session_set, film_at, with_film, film_set, box_set, no_picture_left}
-use Rattle.rules.specs.Checks.{box_rules, set_plan, target_rules, image_note, quietly, failed, Plan, plan_of, decided_by}
+use Rattle.rules.specs.Checks.{box_rules, set_plan, target_rules, image_note, quietly, plan_of}
 use Rattle.promises.proofs.ListLaws.{every_at}
 use Rattle.promises.proofs.Facts.{between_true, core_facts, numbers_facts, shelf_facts, film_facts}
 use Rattle.promises.proofs.Layouts.{boxes_most}
@@ -43,41 +44,23 @@ use Rattle.promises.proofs.Pictures.{pixels_held}
 use Rattle.boxes.proofs.Laws.{position_fits}
 use Rattle.boxes.specs.Images.{PixelsFit}
 use Rattle.rules.specs.declared.Instance.{Instance}
-use Rattle.rules.specs.declared.Instance.TheVariants.{Nobody, TheSession, TheFilm, TheBox}
+use Rattle.rules.specs.declared.Instance.TheVariants.{TheSession, TheFilm, TheBox}
 use Rattle.choice.proofs.Broken.{none_broken}
-use Rattle.verdicts.proofs.Plans.{plan_by_number, broken_decides, kept_decides}
+use Rattle.verdicts.specs.Decided.{Follows}
+use Rattle.verdicts.proofs.Plans.{fails, stands}
 use Rattle.records.specs.Places.{session_in, core_in}
 use Rattle.records.proofs.Parts.{core_session}
 use Rattle.changes.specs.declared.Change.{Change}
+use Rattle.changes.specs.declared.Decision.{Decision}
 use Rattle.changes.specs.declared.Effect.TheVariants.{SessionSet, FilmSet, BoxSet}
 use Rattle.changes.specs.Changes.{box_changed, affected, changed, change_with_session, change_with_film, change_by, FilmThere, PictureLeft, EffectFits, Fits}
-use Rattle.setting.specs.Asked.{asked, note_of}
+use Rattle.setting.specs.Asked.{note_of}
 
 -- Rules.
-
-rules_numbered : (k : Core) (whom : Instance) (name : Name) (l : Listing) → numbered (set_plan k whom name l).rules ≡ true
-unfolding set_plan
-rules_numbered k Nobody name l = refl
-rules_numbered k TheSession name l = refl
-rules_numbered k (TheFilm i) name l = refl
-rules_numbered k (TheBox i j) name l = refl
 
 both_zero : (n m : ℕ) (t : Bool) → eqb n 0 ≡ t → pick t m n ≡ 0 → (n ≡ 0) × (m ≡ 0)
 both_zero n m true e h = (eqb-true n 0 e, h)
 both_zero n m false e h = absurd (clash e (eq-eqb n 0 h))
-
--- the data set breaks a rule of its own, or none
-module _ (c : List ℕ) (r : Request) (k : Core) (whom : Instance) (name : Name) (l : Listing) (n : ℕ) (e : n ≡ first_broken (set_plan k whom name l).rules) (v : Verdict) where
-  own_number : decided_by k c r (set_plan k whom name l) ≡ pick (eqb n 0) (set_plan k whom name l).verdict (failed k c r NoNote n)
-  own_number =
-      let plan = set_plan k whom name l in
-      plan_by_number k c r plan (rules_numbered k whom name l) ∙ ap (λ m. pick (eqb m 0) plan.verdict (failed k c r NoNote m)) (sym e)
-
-  pub own_broken : (n ≡ 0 → ⊥) → v ≡ failed k c r NoNote n → v ≡ decided_by k c r (set_plan k whom name l)
-  own_broken h f = f ∙ sym (own_number ∙ rw (ne_eqb n 0 h))
-
-  pub own_kept : n ≡ 0 → v ≡ (set_plan k whom name l).verdict → v ≡ decided_by k c r (set_plan k whom name l)
-  own_kept h f = f ∙ sym (own_number ∙ rw (eq-eqb n 0 h))
 
 target_numbered : (k : Core) (c : List ℕ) (class instance : Part) → numbered (target_rules k c class instance) ≡ true
 unfolding target_rules
@@ -207,7 +190,7 @@ module _ (k : Core) (i j : ℕ) (l : Listing) (fills : Bool) (told : is_fill (im
 
   module _ (name : Name) where
     abbrev stored : Core → Note → Verdict
-    stored core note = record { done = true; status = 0; core = core; instance = name; note = note; contents = Nothing }
+    stored core note = record { done = true; status = 0; core = core; instance = name; note = note; contents = None }
 
     pub box_stored : (anew : ImageBox) → anew ≡ box_with number l old → (change : Change) → change ≡ change_by (BoxSet i j anew fills) → (note : Note) → note ≡ note_of number l (image_in l)
         → stored (changed k change) note ≡ (set_plan k (TheBox i j) name l).verdict
@@ -242,9 +225,9 @@ film_stored k i l name old was anew e change by =
     ∙ ap (λ (f : Film). quietly (with_film i f k) name) (e ∙ ap (film_with l) was)
 
 -- a set, by what the code tells on its way
-module _ (k : Core) (c d : List ℕ) (message : ℕ) (t : Target) (n : ℕ) (first : n ≡ first_broken (target_rules k c t.class t.instance)) where
-  abbrev Right : Verdict → Type 0
-  Right v = v ≡ decided_by k c (asked message t) (plan_of k c d (Set t))
+module _ (k : Core) (c d : List ℕ) (t : Target) where
+  abbrev Right : Result Decision Failure → Type 0
+  Right x = Follows k (plan_of k c d (Set t)) x
 
   abbrev l : Listing
   l = listing_of d (syntax_in k)
@@ -255,17 +238,18 @@ module _ (k : Core) (c d : List ℕ) (message : ℕ) (t : Target) (n : ℕ) (fir
   abbrev named_so : Name
   named_so = sent_name (uid_at c t.instance)
 
-  abbrev plan : Plan
-  plan = set_plan k (named k (uid_at c t.instance)) named_so l
+  abbrev one : Instance
+  one = named k (uid_at c t.instance)
 
-  pub names_none : (n ≡ 0 → ⊥) → (v : Verdict) → v ≡ failed k c (asked message t) NoNote n → Right v
+  pub names_none : (failure : Failure) → status_of failure ≡ first_broken rules → Right (Err failure)
   unfolding plan_of
-  names_none broken v f = broken_decides k c (asked message t) rules plan (target_numbered k c t.class t.instance) n first v broken f
+  names_none failure e = fails k rules (set_plan k one named_so l) (target_numbered k c t.class t.instance) failure e
 
-  pub names_one : n ≡ 0 → (uid : List ℕ) → uid ≡ uid_at c t.instance → (whom : Instance) → whom ≡ named k uid → (syntax : Syntax) → syntax ≡ syntax_in k
-      → (name : Name) → name ≡ named_so → (v : Verdict) → v ≡ decided_by k c (asked message t) (set_plan k whom name (listing_of d syntax)) → Right v
+  pub names_one : 0 ≡ first_broken rules → (uid : List ℕ) → uid ≡ uid_at c t.instance → (whom : Instance) → whom ≡ named k uid → (syntax : Syntax) → syntax ≡ syntax_in k
+      → (name : Name) → name ≡ named_so → (x : Result Decision Failure) → Follows k (set_plan k whom name (listing_of d syntax)) x → Right x
   unfolding plan_of
-  names_one kept uid at whom is syntax opened name sent v f =
-      kept_decides k c (asked message t) rules plan (target_numbered k c t.class t.instance) n first v kept
-      (f ∙ ap (λ x. decided_by k c (asked message t) (set_plan k whom x (listing_of d syntax))) sent ∙ ap (λ (x : Syntax). decided_by k c (asked message t) (set_plan k whom named_so (listing_of d x))) opened
-      ∙ ap (λ x. decided_by k c (asked message t) (set_plan k x named_so l)) (is ∙ ap (named k) at))
+  names_one kept uid at whom is syntax opened name sent x f =
+      stands k rules (set_plan k one named_so l) (target_numbered k c t.class t.instance) x kept
+      (subst (λ (y : Name). Follows k (set_plan k one y l) x) sent
+      (subst (λ (y : Syntax). Follows k (set_plan k one name (listing_of d y)) x) opened
+      (subst (λ (y : Instance). Follows k (set_plan k y name (listing_of d syntax)) x) (is ∙ ap (named k) at) f)))

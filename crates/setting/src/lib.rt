@@ -3,13 +3,13 @@
 
 ghost use Rattle.std.specs.Prelude.{◌≡◌, true, ◌<◌, ◌≤◌, length, get_or};
 ghost use Rattle.choice.specs.Pick.{pick};
-ghost use Rattle.choice.specs.Rules.{first_broken};
+ghost use Rattle.choice.specs.Rules.{first_broken, number_by};
 ghost use Rattle.rules.specs.declared.Operation.TheVariants.{Set};
 ghost use Rattle.rules.specs.declared.Instance.TheVariants.{TheSession, TheFilm, TheBox};
 ghost use Rattle.rules.specs.Bounds.{most_boxes};
 ghost use Rattle.rules.specs.Records.{box_count, no_box, films_of};
+ghost use Rattle.rules.specs.Failures.{status_of};
 ghost use Rattle.rules.specs.Sound.{core_sound};
-ghost use Rattle.rules.specs.Layout.{records_size};
 ghost use Rattle.rules.specs.Attributes.{listing_of, us, image_in, box_with};
 ghost use Rattle.rules.specs.Effects.{film_at};
 ghost use Rattle.rules.specs.Checks.{box_rules, set_plan, plan_of, decided_by};
@@ -19,109 +19,95 @@ ghost use Rattle.boxes.specs.Images.{ImageRead, PixelsFit};
 ghost use Rattle.boxes.specs.Founds.{BoxRead, ItemRead};
 ghost use Rattle.instances.specs.There.{There};
 ghost use Rattle.verdicts.specs.Ready.{ReadyIn, UidsIn};
-ghost use Rattle.verdicts.specs.Decided.{Decides};
+ghost use Rattle.verdicts.specs.Decided.{Decides, Follows};
 ghost use Rattle.setting.specs.Asked.{asked, note_of};
 
 use boxes::BoxFound;
 use changes::{Decision, Effect};
 use elements::Found;
 use headers::Syntax;
-use records::{AT_FILMS, AT_PICTURE, AT_SESSIONS, FILM, FILM_BOXES, FILM_LAYOUT, IMAGE_BOX};
-use rules::{Contents, Image, ImageBox, Instance, Name, Note, Operation, Request, Target};
+use records::{
+    AT_FILMS, AT_PICTURE, AT_SESSIONS, FILM, FILM_BOXES, FILM_LAYOUT, IMAGE_BOX, Record, Records,
+};
+use rules::{
+    Failure, Film, Image, ImageBox, Instance, Name, Note, Operation, Request, Session, Target,
+};
 
 // The session.
 
-fn session_decided(
-    b: &[u8],
-    c: &[u8],
-    d: &[u8],
-    syntax: Syntax,
-    request: Request,
-    name: Name,
-) -> Decision
-    requires { ReadyIn b.now × UidsIn c.now request.operation }
-    ensures { Decides (core_in b.now) result (decided_by (core_in b.now) c.now request (set_plan (core_in b.now) TheSession name (listing_of d.now syntax))) }
+// As film_decided in its course alone: what is found, tested and stored is another at each step.
+fn session_decided(b: &Records, d: &[u8], syntax: Syntax, name: Name) -> Result<Decision, Failure>
+    requires { ReadyIn b.now }
+    ensures { Follows (core_in b.now) (set_plan (core_in b.now) TheSession name (listing_of d.now syntax)) result }
 {
     let found = attributes::session_found(d, syntax);
-    let broken = attributes::session_broken(d, syntax, found);
-    if broken != 0 {
-        return verdicts::failed(c, request, Note::NoNote, broken);
-    }
-    let old = records::session_at(b, AT_SESSIONS);
+    attributes::session_broken(d, syntax, found)?;
+    let old = Session::read_at(b, AT_SESSIONS);
     let session = attributes::session_with(d, syntax, found, old);
-    verdicts::with_change(
-        changes::change_with_session(Effect::SessionSet, session),
-        name,
-    )
+    let change = changes::change_with_session(Effect::SessionSet, session);
+    Ok(verdicts::with_change(change, name))
 }
 
 // A film.
 
 fn film_decided(
-    b: &[u8],
-    c: &[u8],
+    b: &Records,
     d: &[u8],
     syntax: Syntax,
-    request: Request,
     i: usize,
     name: Name,
-) -> Decision
-    requires { ReadyIn b.now × UidsIn c.now request.operation × (i < length (films_of (core_in b.now).shelf)) }
-    ensures { Decides (core_in b.now) result (decided_by (core_in b.now) c.now request (set_plan (core_in b.now) (TheFilm i) name (listing_of d.now syntax))) }
+) -> Result<Decision, Failure>
+    requires { ReadyIn b.now × (i < length (films_of (core_in b.now).shelf)) }
+    ensures { Follows (core_in b.now) (set_plan (core_in b.now) (TheFilm i) name (listing_of d.now syntax)) result }
 {
     let found = attributes::film_found(d, syntax);
-    let broken = attributes::film_set_broken(d, syntax, found);
-    if broken != 0 {
-        return verdicts::failed(c, request, Note::NoNote, broken);
-    }
-    let old = records::film_at(b, AT_FILMS + i * FILM);
+    attributes::film_set_broken(d, syntax, found)?;
+    let old = Film::read_at(b, AT_FILMS + i * FILM);
     let film = attributes::film_with(d, syntax, found, old);
-    verdicts::with_change(changes::change_with_film(Effect::FilmSet(i), film), name)
+    let change = changes::change_with_film(Effect::FilmSet(i), film);
+    Ok(verdicts::with_change(change, name))
 }
 
 // An image box.
 
 // Checks 8 and 9: the attributes, and a picture number for what fills the box.
 fn box_broken(
-    b: &[u8],
+    b: &Records,
     d: &[u8],
     syntax: Syntax,
     found: BoxFound,
     item: [Found; 9],
     i: usize,
-) -> u16
-    requires { (records_size ≤ length b.now) × (core_sound (core_in b.now) ≡ true) × (i < length (films_of (core_in b.now).shelf)) × BoxRead d.now syntax found × ItemRead d.now syntax found.image item }
-    ensures { result ≡ first_broken (box_rules (core_in b.now) i (listing_of d.now syntax)) }
+) -> Result<(), Failure>
+    requires { (core_sound (core_in b.now) ≡ true) × (i < length (films_of (core_in b.now).shelf)) × BoxRead d.now syntax found × ItemRead d.now syntax found.image item }
+    ensures { number_by status_of result ≡ first_broken (box_rules (core_in b.now) i (listing_of d.now syntax)) }
 {
     let count = layouts::box_count_at(b, AT_FILMS + i * FILM + FILM_LAYOUT) as usize;
-    let first = boxes::box_broken(count, d, syntax, found, item);
-    if first != 0 {
-        return first;
-    }
-    let image = found.image;
-    if !boxes::is_fill(image) {
-        return 0;
+    boxes::box_broken(count, d, syntax, found, item)?;
+    if !boxes::is_fill(found.image) {
+        return Ok(());
     }
     if octets::number_at(b, AT_PICTURE, 5) == 4294967296 {
-        return 0x0213;
+        return Err(Failure::NoRoom);
     }
-    0
+    Ok(())
 }
 
 // A picture number is used only where the box is filled: 0 where it is not.
-fn number_used(b: &[u8], fills: bool) -> u32
-    requires { (records_size ≤ length b.now) × PictureLeft (core_in b.now) fills }
+fn number_used(b: &Records, fills: bool) -> u32
+    requires { PictureLeft (core_in b.now) fills }
     ensures { result ≡ pick fills (core_in b.now).numbers.picture 0 }
 {
     if fills {
-        return octets::number_at(b, AT_PICTURE, 5) as u32;
+        octets::number_at(b, AT_PICTURE, 5) as u32
+    } else {
+        0
     }
-    0
 }
 
 // The box as it is set, of the one that stands there.
 fn box_anew(
-    b: &[u8],
+    b: &Records,
     d: &[u8],
     syntax: Syntax,
     found: BoxFound,
@@ -129,10 +115,10 @@ fn box_anew(
     i: usize,
     j: usize,
 ) -> ImageBox
-    requires { (records_size ≤ length b.now) × (core_sound (core_in b.now) ≡ true) × (i < length (films_of (core_in b.now).shelf)) × (j < most_boxes) × (us (listing_of d.now syntax) 0x2020_0010 < 256) × BoxRead d.now syntax found }
+    requires { (core_sound (core_in b.now) ≡ true) × (i < length (films_of (core_in b.now).shelf)) × (j < most_boxes) × (us (listing_of d.now syntax) 0x2020_0010 < 256) × BoxRead d.now syntax found }
     ensures { result ≡ box_with number (listing_of d.now syntax) (get_or (film_at (core_in b.now) i).boxes j no_box) }
 {
-    let old = records::image_box_at(b, AT_FILMS + i * FILM + FILM_BOXES + j * IMAGE_BOX);
+    let old = ImageBox::read_at(b, AT_FILMS + i * FILM + FILM_BOXES + j * IMAGE_BOX);
     boxes::box_with(number, d, syntax, found, old)
 }
 
@@ -153,7 +139,7 @@ fn image_note(number: u32, d: &[u8], syntax: Syntax, image: Image, item: [Found;
 }
 
 fn box_stored(
-    b: &[u8],
+    b: &Records,
     d: &[u8],
     syntax: Syntax,
     found: BoxFound,
@@ -182,81 +168,66 @@ fn box_stored(
         change,
         instance: name,
         note,
-        contents: Contents::Nothing,
+        contents: None,
     }
 }
 
 fn box_decided(
-    b: &[u8],
-    c: &[u8],
+    b: &Records,
     d: &[u8],
     syntax: Syntax,
-    request: Request,
     i: usize,
     j: usize,
     name: Name,
-) -> Decision
-    requires { ReadyIn b.now × UidsIn c.now request.operation × (i < length (films_of (core_in b.now).shelf)) × (j < box_count (film_at (core_in b.now) i).layout) × (length d.now ≤ 16777216) }
-    ensures { Decides (core_in b.now) result (decided_by (core_in b.now) c.now request (set_plan (core_in b.now) (TheBox i j) name (listing_of d.now syntax))) }
+) -> Result<Decision, Failure>
+    requires { ReadyIn b.now × (i < length (films_of (core_in b.now).shelf)) × (j < box_count (film_at (core_in b.now) i).layout) × (length d.now ≤ 16777216) }
+    ensures { Follows (core_in b.now) (set_plan (core_in b.now) (TheBox i j) name (listing_of d.now syntax)) result }
 {
     let found = boxes::gathered(d, syntax);
-    let image = found.image;
-    let item = boxes::item_gathered(d, syntax, image);
-    let broken = box_broken(b, d, syntax, found, item, i);
-    if broken != 0 {
-        return verdicts::failed(c, request, Note::NoNote, broken);
-    }
-    box_stored(b, d, syntax, found, item, i, j, name)
+    let item = boxes::item_gathered(d, syntax, found.image);
+    box_broken(b, d, syntax, found, item, i)?;
+    Ok(box_stored(b, d, syntax, found, item, i, j, name))
 }
 
 // What is named.
 
 // "A set stores nothing before its last value is tested."
 fn decided(
-    b: &[u8],
-    c: &[u8],
+    b: &Records,
     d: &[u8],
     syntax: Syntax,
-    request: Request,
     whom: Instance,
     name: Name,
-) -> Decision
-    requires { ReadyIn b.now × UidsIn c.now request.operation × There (core_in b.now) whom × (length d.now ≤ 16777216) }
-    ensures { Decides (core_in b.now) result (decided_by (core_in b.now) c.now request (set_plan (core_in b.now) whom name (listing_of d.now syntax))) }
+) -> Result<Decision, Failure>
+    requires { ReadyIn b.now × There (core_in b.now) whom × (length d.now ≤ 16777216) }
+    ensures { Follows (core_in b.now) (set_plan (core_in b.now) whom name (listing_of d.now syntax)) result }
 {
     match whom {
-        Instance::Nobody => verdicts::quiet(shelves::no_name()),
-        Instance::TheSession => session_decided(b, c, d, syntax, request, name),
-        Instance::TheFilm(i) => film_decided(b, c, d, syntax, request, i, name),
-        Instance::TheBox { film, place } => {
-            box_decided(b, c, d, syntax, request, film, place, name)
-        }
+        Instance::Nobody => Ok(verdicts::quiet(shelves::no_name())),
+        Instance::TheSession => session_decided(b, d, syntax, name),
+        Instance::TheFilm(i) => film_decided(b, d, syntax, i, name),
+        Instance::TheBox { film, place } => box_decided(b, d, syntax, film, place, name),
     }
 }
 
-pub fn set(b: &[u8], c: &[u8], d: &[u8], message: u16, target: Target) -> Decision
+// Check 6, and what it leaves to be set.
+fn set_planned(b: &Records, c: &[u8], d: &[u8], target: Target) -> Result<Decision, Failure>
+    requires { ReadyIn b.now × UidsIn c.now (Set target) × (length d.now ≤ 16777216) }
+    ensures { Follows (core_in b.now) (plan_of (core_in b.now) c.now d.now (Set target)) result }
+{
+    checks::target_broken(b, c, target.class, target.instance)?;
+    let whom = instances::named(b, instances::uid_at(c, target.instance));
+    let syntax = records::syntax_in(b);
+    decided(b, d, syntax, whom, verdicts::name_at(c, target.instance))
+}
+
+pub fn set(b: &Records, c: &[u8], d: &[u8], message: u16, target: Target) -> Decision
     requires { ReadyIn b.now × UidsIn c.now (Set target) × (length d.now ≤ 16777216) }
     ensures { Decides (core_in b.now) result (decided_by (core_in b.now) c.now (asked message target) (plan_of (core_in b.now) c.now d.now (Set target))) }
 {
-    let class = target.class;
-    let instance = target.instance;
     let request = Request {
         message,
         operation: Operation::Set(target),
     };
-    let refused = checks::target_broken(b, c, class, instance);
-    if refused != 0 {
-        return verdicts::failed(c, request, Note::NoNote, refused);
-    }
-    let whom = instances::named(b, instances::uid_at(c, instance));
-    let syntax = records::syntax_in(b);
-    decided(
-        b,
-        c,
-        d,
-        syntax,
-        request,
-        whom,
-        verdicts::name_at(c, instance),
-    )
+    verdicts::decided(c, request, set_planned(b, c, d, target))
 }

@@ -5,8 +5,9 @@ use mathlib.Core.Path.{◌≡◌, refl, ap, ◌∙◌}
 use mathlib.Core.List.{List, [], ◌∷◌, ◌++◌, map, append_assoc}
 use native.Mathlib.Numerals.{add-one}
 use native.Mathlib.Omega.{arith}
-use lib.ListN.{length, set, drop, replicate, length-append, length-map, length-set, replicate-append-replicate}
+use lib.ListN.{length, set, replicate, length-append, length-map, length-set, replicate-append-replicate}
 use lib.Seq.{set-append_left, set-append_seam}
+use Rattle.std.proofs.lemmas.List.{map-append, drop-replicate}
 use Rattle.octets.specs.Octets.{laid}
 use Rattle.rules.specs.Lists.{filled_to, from, without}
 use Rattle.shelves.proofs.Without.{without_length, without_append}
@@ -16,14 +17,9 @@ module _ {A : Type 0} (blank : A) where
   replicate_first zero h = absurd (omega arith)
   replicate_first (suc n) h = let e : suc n - 1 ≡ n = omega arith in rw e
 
-  drop_replicate : (k n : ℕ) → k ≤ n → drop k (replicate n blank) ≡ replicate (n - k) blank
-  drop_replicate zero n h = let e : n - 0 ≡ n = omega arith in rw e
-  drop_replicate (suc k) zero h = absurd (omega arith)
-  drop_replicate (suc k) (suc n) h = let e : suc n - suc k ≡ n - k = omega arith in rw e (drop_replicate k n (omega arith))
-
 -- bytes laid over blank ones
 pub laid_filled : (n blank : ℕ) (xs : List ℕ) → length xs ≤ n → laid (replicate n blank) 0 xs ≡ filled_to n blank xs
-laid_filled n blank xs h = let e : 0 + length xs ≡ length xs = omega arith in rw (e, drop_replicate blank (length xs) n h)
+laid_filled n blank xs h = let e : 0 + length xs ≡ length xs = omega arith in rw (e, drop-replicate (length xs) n blank)
 
 -- Places of which the first hold a list, and the others are blank.
 
@@ -70,13 +66,9 @@ unfolding from
 from_more n zero = let e : 0 + n ≡ n = omega arith in rw e
 from_more n (suc k) = let e : k + (n + 1) ≡ suc k + n = omega arith in rw (from_more (n + 1) k, e)
 
-map_append : {A B : Type 0} (f : A → B) (xs ys : List A) → map f (xs ++ ys) ≡ map f xs ++ map f ys
-map_append f [] ys = refl
-map_append f (x ∷ xs) ys = rw (map_append f xs ys)
-
 -- one more of what is made of the numbers from one on
 pub counted_more : {A : Type 0} (m : ℕ) (blank : A) (f : ℕ → A) (n i : ℕ) → i < m → set (filled_to m blank (map f (from n i))) i (f (i + n)) ≡ filled_to m blank (map f (from n (i + 1)))
 counted_more m blank f n i h =
     let xs = map f (from n i) in
     let held : Holds m blank i (filled_to m blank xs) xs = record { counted = simp (length-map, from_length); placed = refl } in
-    rw (add-one, from_more n i, map_append) (holds_more m blank i (filled_to m blank xs) xs held (f (i + n)) h).placed
+    rw (add-one, from_more n i, map-append) (holds_more m blank i (filled_to m blank xs) xs held (f (i + n)) h).placed

@@ -1,17 +1,16 @@
 -- The one at a place of a list's first few.
 -- Assumes nothing.
-use Prim.Native.Nat.{ℕ, zero, suc, ◌<◌, min}
-use mathlib.Core.Path.{◌≡◌, refl, sym, ◌∙◌}
-use mathlib.Core.List.{List, [], ◌∷◌}
+use Prim.Native.Nat.{ℕ, ◌<◌, min}
+use mathlib.Core.Path.{◌≡◌, sym, ◌∙◌}
+use mathlib.Core.List.{List}
 use native.Mathlib.Omega.{arith}
 use lib.ListN.{length, get_or, take, length-take}
 use lib.Seq.{get_or-take}
+use Rattle.std.proofs.lemmas.List.{get_or_default}
 
 -- an element is read whatever stands for those that are not there
 pub get_d_there : {A : Type 0} (xs : List A) (i : ℕ) (d e : A) → i < length xs → get_or xs i d ≡ get_or xs i e
-get_d_there [] i d e h = absurd (omega arith)
-get_d_there (x ∷ xs) zero d e h = refl
-get_d_there (x ∷ xs) (suc i) d e h = get_d_there xs i d e (omega arith)
+get_d_there xs i d e h = get_or_default xs i d e h
 
 module _ {A : Type 0} (xs : List A) (n : ℕ) where
   pub few_below : (i : ℕ) → i < length (take n xs) → (i < n) × (i < length xs)

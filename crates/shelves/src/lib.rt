@@ -1,13 +1,16 @@
 // Shelves: what is not there and what is new: names, films, boxes, sessions and entries; the film at a place.
 #![tactic(auto)]
 
-ghost use Rattle.std.specs.Prelude.{◌≡◌, ◌<◌, ◌≤◌, [], map, length, get_or, take};
+ghost use Rattle.std.specs.Prelude.{◌≡◌, ◌<◌, ◌≤◌, [], map, length, get_or};
 ghost use Rattle.rules.specs.Bounds.{most_boxes};
 ghost use Rattle.rules.specs.Lists.{from, filled_to};
 ghost use Rattle.rules.specs.Records.{no_name, made_name, sent_name, no_box, no_film, films_of, shelved, no_entry, queued, no_session, new_session};
 ghost use Rattle.rules.specs.Effects.{new_box};
 
-use rules::{Entry, Film, ImageBox, Layout, Name, Picture, Queue, Serial, Session, Shelf};
+use rules::{
+    BOXES, ENTRIES, Entry, FILMS, Film, ImageBox, LINES, Layout, Name, Picture, Queue, Serial,
+    Session, Shelf, TEXT,
+};
 
 // Names.
 
@@ -18,7 +21,7 @@ pub fn made_name(serial: u32) -> Name
     Name {
         made: Serial(serial),
         used: 0,
-        text: [0; 64],
+        text: [0; TEXT],
     }
 }
 
@@ -33,7 +36,7 @@ pub fn sent_name(uid: &[u8]) -> Name
     requires { length uid.now ≤ 64 }
     ensures { result ≡ sent_name uid.now }
 {
-    let mut text = [0; 64];
+    let mut text = [0; TEXT];
     octets::put(&mut text, 0, uid);
     Name {
         made: Serial(0),
@@ -63,12 +66,12 @@ pub fn no_film() -> Film
         layout: Layout {
             kind: 0,
             lines: 0,
-            counts: [0; 6],
+            counts: [0; LINES],
         },
         orientation: 0,
         magnification: 0,
         first: Serial(0),
-        boxes: [no_box(); 36],
+        boxes: [no_box(); BOXES],
     }
 }
 
@@ -83,7 +86,7 @@ pub fn no_session() -> Session
         medium: 0,
         destination: 0,
         used: 0,
-        label: [0; 64],
+        label: [0; TEXT],
     }
 }
 
@@ -93,13 +96,9 @@ pub fn new_session() -> Session
 {
     Session {
         live: 1,
-        name: no_name(),
         copies: 1,
         priority: 1,
-        medium: 0,
-        destination: 0,
-        used: 0,
-        label: [0; 64],
+        ..no_session()
     }
 }
 
@@ -107,27 +106,24 @@ fn no_entry() -> Entry
     ensures { result ≡ no_entry }
 {
     Entry {
-        pictures: [Picture(0); 36],
+        pictures: [Picture(0); BOXES],
         ticket: 0,
         copies: 0,
         film: no_name(),
     }
 }
 
-pub fn new_boxes(count: usize) -> [ImageBox; 36]
-    requires { count ≤ 36 }
+pub fn new_boxes(count: usize) -> [ImageBox; BOXES]
+    requires { count ≤ most_boxes }
     ensures { result ≡ filled_to most_boxes no_box (map new_box (from 1 count)) }
 {
-    let mut boxes = [no_box(); 36];
-    let mut i = 0;
-    while i < count {
+    let mut boxes = [no_box(); BOXES];
+    for i in 0..count {
         let position = i as u8 + 1;
         boxes[i] = ImageBox {
             position,
-            polarity: 0,
-            picture: Picture(0),
+            ..no_box()
         };
-        i += 1;
     }
     boxes
 }
@@ -139,17 +135,8 @@ pub fn no_films() -> Shelf
 {
     Shelf {
         count: 0,
-        films: [no_film(); 8],
+        films: [no_film(); FILMS],
     }
-}
-
-// Of the first n films the one at a place.
-fn film_within(a: [Film; 8], n: usize, i: usize) -> Film
-    requires { i < length (take n a) }
-    ensures { result ≡ get_or (take n a) i no_film }
-{
-    let xs = a;
-    xs[i]
 }
 
 // The film at a place.
@@ -158,7 +145,7 @@ pub fn film_at(s: Shelf, i: usize) -> Film
     ensures { result ≡ get_or (films_of s) i no_film }
 {
     let films = s.films;
-    film_within(films, s.count as usize, i)
+    films[i]
 }
 
 // The queue.
@@ -168,6 +155,6 @@ pub fn no_entries() -> Queue
 {
     Queue {
         count: 0,
-        entries: [no_entry(); 16],
+        entries: [no_entry(); ENTRIES],
     }
 }

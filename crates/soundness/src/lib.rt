@@ -3,25 +3,25 @@
 
 ghost use Rattle.std.specs.Prelude.{◌≡◌, [], ◌∷◌, ◌≤◌, eqb, length};
 ghost use Rattle.choice.specs.Pick.{pick};
-ghost use Rattle.choice.specs.Rules.{first_broken};
+ghost use Rattle.choice.specs.Rules.{first_broken, number_by};
 ghost use Rattle.octets.specs.Octets.{number_at};
 ghost use Rattle.strike.specs.Machine.{command_limit};
 ghost use Rattle.rules.specs.Records.{command_held};
 ghost use Rattle.rules.specs.Commands.{understood};
 ghost use Rattle.rules.specs.Sound.{zeros, open_sound, opened_sound, readable, phase_sound, input_sound, core_sound, sound};
-ghost use Rattle.rules.specs.Layout.{records_size, unpack};
+ghost use Rattle.rules.specs.Layout.{unpack};
+ghost use Rattle.rules.specs.Failures.{number_of};
 ghost use Rattle.rules.specs.Outcomes.{records_rules};
 ghost use Rattle.records.specs.Places.{opened_in, core_in, held_in};
 ghost use Rattle.soundness.specs.Held.{used_place};
 
 use records::{
     AT_COMMAND, AT_CONTEXT, AT_GOT, AT_INPUT, AT_OPENED, AT_ROOM, AT_SESSIONS, AT_SYNTAX, AT_USED,
-    RECORDS,
+    RECORDS, Records,
 };
-use rules::{COMMAND, Command};
+use rules::{COMMAND, Command, Refusal};
 
-fn open_sound(b: &[u8]) -> bool
-    requires { records_size ≤ length b.now }
+fn open_sound(b: &Records) -> bool
     ensures { result ≡ open_sound (opened_in b.now) }
 {
     if b[AT_CONTEXT] % 2 != 1 {
@@ -44,8 +44,7 @@ fn open_sound(b: &[u8]) -> bool
     true
 }
 
-fn opened_sound(b: &[u8]) -> bool
-    requires { records_size ≤ length b.now }
+fn opened_sound(b: &Records) -> bool
     ensures { result ≡ opened_sound (opened_in b.now) }
 {
     let live = b[AT_OPENED];
@@ -64,22 +63,16 @@ fn opened_sound(b: &[u8]) -> bool
     octets::u32_at(b, AT_ROOM) == 0
 }
 
-fn is_readable(command: Command) -> bool
+// Whether a command can be read.
+pub fn is_readable(command: Command) -> bool
     ensures { result ≡ readable command }
 {
-    match command {
-        Command::Unreadable => false,
-        Command::Unknown {
-            message: _,
-            field: _,
-        } => true,
-        Command::Known(_) => true,
-    }
+    !matches!(command, Command::Unreadable)
 }
 
 // Whether the command that is held is readable.
-fn held_readable(b: &[u8]) -> bool
-    requires { (records_size ≤ length b.now) × (number_at 2 b.now used_place ≤ command_limit) }
+fn held_readable(b: &Records) -> bool
+    requires { number_at 2 b.now used_place ≤ command_limit }
     ensures { result ≡ readable (understood (command_held (held_in b.now))) }
 {
     let stop = AT_COMMAND + octets::u16_at(b, AT_USED);
@@ -90,15 +83,12 @@ fn held_readable(b: &[u8]) -> bool
 fn holds_nothing(used: usize, got: usize) -> bool
     ensures { result ≡ zeros (used ∷ got ∷ []) }
 {
-    if used != 0 {
-        return false;
-    }
-    got == 0
+    used == 0 && got == 0
 }
 
 // The collecting state: in command, in data, skipping data, or one that holds nothing.
-fn phase_sound(b: &[u8]) -> bool
-    requires { (records_size ≤ length b.now) × (number_at 2 b.now used_place ≤ command_limit) }
+fn phase_sound(b: &Records) -> bool
+    requires { number_at 2 b.now used_place ≤ command_limit }
     ensures { result ≡ phase_sound (opened_in b.now).room (held_in b.now) }
 {
     let phase = b[AT_INPUT];
@@ -125,14 +115,10 @@ fn phase_sound(b: &[u8]) -> bool
 fn last_phase(live: u8) -> u8
     ensures { result ≡ pick (eqb live 0) 0 4 }
 {
-    if live == 0 {
-        return 0;
-    }
-    4
+    if live == 0 { 0 } else { 4 }
 }
 
-fn input_sound(b: &[u8]) -> bool
-    requires { records_size ≤ length b.now }
+fn input_sound(b: &Records) -> bool
     ensures { result ≡ input_sound (opened_in b.now) (held_in b.now) }
 {
     if last_phase(b[AT_OPENED]) < b[AT_INPUT] {
@@ -148,8 +134,7 @@ fn input_sound(b: &[u8]) -> bool
     phase_sound(b)
 }
 
-fn core_sound(b: &[u8]) -> bool
-    requires { records_size ≤ length b.now }
+fn core_sound(b: &Records) -> bool
     ensures { result ≡ core_sound (core_in b.now) }
 {
     if !names::numbers_sound(b) {
@@ -171,25 +156,19 @@ fn core_sound(b: &[u8]) -> bool
 }
 
 // The records' rules.
-fn state_sound(b: &[u8]) -> bool
-    requires { records_size ≤ length b.now }
+fn state_sound(b: &Records) -> bool
     ensures { result ≡ sound (unpack b.now) }
 {
-    if !core_sound(b) {
-        return false;
-    }
-    input_sound(b)
+    core_sound(b) && input_sound(b)
 }
 
-// The number that a call is refused with for its records, 0 where it is not.
-pub fn refusal(bytes: &[u8]) -> u32
-    ensures { result ≡ first_broken (records_rules bytes.now) }
+// What a call is refused for by its records.
+pub fn refusal(bytes: &[u8]) -> Result<(), Refusal>
+    ensures { number_by number_of result ≡ first_broken (records_rules bytes.now) }
 {
-    if bytes.len() < RECORDS {
-        return 2;
+    match bytes.first_chunk() {
+        Some(records) if state_sound(records) => Ok(()),
+        Some(_) => Err(Refusal::Broken),
+        None => Err(Refusal::Short),
     }
-    if !state_sound(bytes) {
-        return 1;
-    }
-    0
 }

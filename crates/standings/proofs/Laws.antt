@@ -14,6 +14,11 @@ use Rattle.elements.proofs.Within.{FoundIn}
 use Rattle.rules.specs.Lists.{any}
 use Rattle.rules.specs.Commands.{placed, bytes_of}
 use Rattle.rules.specs.Attributes.{Listing, Standing, missing, empty, wrong, fine, is, mandatory, optional, given, attribute_rules}
+use Rattle.std.specs.Ordering.{ord_max}
+use Rattle.standings.specs.declared.Severity.{Severity}
+use Rattle.standings.specs.declared.Severity.TheVariants as severities
+use Rattle.standings.specs.contracts.SeverityOrd.TheImpl as order
+use Rattle.standings.specs.Level.{level}
 use Rattle.standings.specs.Severity.{kind_of, severity, severity_by, optional_by, given_by, worse, rank, worst, status_of}
 
 -- what stands where it was found, empty where it is no value
@@ -121,3 +126,23 @@ fine_tests false false false false h = absurd (omega (arith, h))
 pub fine_allowed : (kind : ℕ) (is_empty allowed : Bool) → severity_by kind is_empty allowed ≡ 0 → allowed ≡ true
 unfolding severity_by
 fine_allowed kind is_empty allowed h = fine_tests (eqb kind 0) (eqb kind 2) is_empty allowed h
+
+-- the worse of two is the greater
+pub greater : (a b : Severity) → level (ord_max order.cmp-value.it a b) ≡ worse (level a) (level b)
+unfolding worse
+greater severities.Allowed severities.Allowed = refl
+greater severities.Allowed severities.Wrong = refl
+greater severities.Allowed severities.Empty = refl
+greater severities.Allowed severities.Missing = refl
+greater severities.Wrong severities.Allowed = refl
+greater severities.Wrong severities.Wrong = refl
+greater severities.Wrong severities.Empty = refl
+greater severities.Wrong severities.Missing = refl
+greater severities.Empty severities.Allowed = refl
+greater severities.Empty severities.Wrong = refl
+greater severities.Empty severities.Empty = refl
+greater severities.Empty severities.Missing = refl
+greater severities.Missing severities.Allowed = refl
+greater severities.Missing severities.Wrong = refl
+greater severities.Missing severities.Empty = refl
+greater severities.Missing severities.Missing = refl

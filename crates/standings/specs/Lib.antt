@@ -1,1 +1,3 @@
 pub mod Severity
+pub mod Level
+pub mod Founds

@@ -1,109 +1,137 @@
-// Standings: how an attribute stands in a data set, as a number, and the status that the worst of them gives (check 8).
-#![tactic(auto)]
+// Standings: how badly an attribute stands in a data set, and the failure that the worst of them gives (check 8).
+#![tactic(auto, unfolding(crate::specs::Severity::severity_by, crate::specs::Severity::optional_by, crate::specs::Severity::given_by, crate::specs::Severity::status_of))]
 
-ghost use Rattle.std.specs.Prelude.{◌≡◌, ◌≤◌, length};
-ghost use Rattle.rules.specs.Commands.{placed, bytes_of};
+ghost use Rattle.std.specs.Prelude.{◌≡◌};
+ghost use Rattle.choice.specs.Rules.{number_by};
+ghost use Rattle.rules.specs.Values.{blank, code_in};
+ghost use Rattle.rules.specs.Commands.{placed};
+ghost use Rattle.rules.specs.Attributes.{code_allowed};
+ghost use Rattle.rules.specs.Failures as failures;
+ghost use Rattle.values.specs.Codes.{code_texts};
 ghost use Rattle.standings.specs.Severity.{kind_of, severity_by, optional_by, given_by, worse, status_of};
+ghost use Rattle.standings.specs.Founds.{Placed, bytes_found, mandatory_found, optional_found, found_or};
+ghost use Rattle.standings.specs.Level.{level};
 
 use elements::Found;
 use headers::Part;
+use rules::Failure;
+use values::Code;
 
-// What a list holds under a tag: nothing (0), a value (1) or a sequence (2), and where the value stands.
-#[derive(Clone, Copy)]
-pub struct Attribute {
-    pub kind: u8,
-    pub value: Part,
+// How badly an attribute stands: the later, the worse.
+#[derive(Clone, Copy, PartialEq, Eq, PartialOrd, Ord)]
+pub enum Severity {
+    Allowed,
+    Wrong,
+    Empty,
+    Missing,
 }
 
-pub fn seen(found: Found) -> Attribute
-    ensures { (result.kind ≡ kind_of found) × (result.value ≡ placed found) }
+// Where the value stands that was found.
+pub fn place(found: Found) -> Part
+    ensures { result ≡ placed found }
 {
     match found {
-        Found::Missing => Attribute {
-            kind: 0,
-            value: Part { from: 0, stop: 0 },
-        },
-        Found::Value(part) => Attribute {
-            kind: 1,
-            value: part,
-        },
-        Found::Sequence(_) => Attribute {
-            kind: 2,
-            value: Part { from: 0, stop: 0 },
-        },
+        Found::Missing => Part { from: 0, stop: 0 },
+        Found::Value(part) => part,
+        Found::Sequence(_) => Part { from: 0, stop: 0 },
     }
 }
 
-pub fn value(d: &[u8], part: Part) -> &[u8]
-    requires { (part.from ≤ part.stop) × (part.stop ≤ length d.now) }
-    ensures { result.now ≡ bytes_of d.now part }
+// Its bytes, none where it is no value.
+pub fn value(d: &[u8], found: Found) -> &[u8]
+    requires { Placed d.now found }
+    ensures { result.now ≡ bytes_found d.now found }
 {
-    let from = part.from;
-    let stop = part.stop;
-    &d[from..stop]
+    let part = place(found);
+    &d[part.from..part.stop]
 }
 
 // A mandatory attribute, by the tests that its value is empty and that it is allowed.
-pub fn severity(kind: u8, empty: bool, allowed: bool) -> u8
-    ensures { result ≡ severity_by kind empty allowed }
+pub fn mandatory_severity(found: Found, empty: bool, allowed: bool) -> Severity
+    ensures { level result ≡ severity_by (kind_of found) empty allowed }
 {
-    if kind == 0 {
-        return 3;
+    match found {
+        Found::Missing => Severity::Missing,
+        Found::Value(_) => {
+            if empty {
+                Severity::Empty
+            } else if allowed {
+                Severity::Allowed
+            } else {
+                Severity::Wrong
+            }
+        }
+        Found::Sequence(_) => Severity::Wrong,
     }
-    if kind == 2 {
-        return 1;
-    }
-    if empty {
-        return 2;
-    }
-    if allowed {
-        return 0;
-    }
-    1
 }
 
 // "Optional empty values .. count as absent"
-pub fn optional_severity(kind: u8, empty: bool, allowed: bool) -> u8
-    ensures { result ≡ optional_by kind empty allowed }
+pub fn optional_severity(found: Found, empty: bool, allowed: bool) -> Severity
+    ensures { level result ≡ optional_by (kind_of found) empty allowed }
 {
-    if severity(kind, empty, allowed) == 1 {
-        return 1;
+    match mandatory_severity(found, empty, allowed) {
+        Severity::Wrong => Severity::Wrong,
+        _ => Severity::Allowed,
     }
-    0
 }
 
-pub fn is_given(kind: u8, empty: bool) -> bool
-    ensures { result ≡ given_by kind empty }
+// A mandatory code.
+pub fn code_severity(code: Code, d: &[u8], found: Found) -> Severity
+    requires { Placed d.now found }
+    ensures { level result ≡ mandatory_found blank (code_allowed (code_texts code)) d.now found }
 {
-    if kind == 0 {
-        return false;
-    }
-    if kind == 2 {
-        return true;
-    }
-    if empty {
-        return false;
-    }
-    true
+    let v = value(d, found);
+    let allowed = values::code_in(code, v).is_some();
+    mandatory_severity(found, texts::is_blank(v), allowed)
 }
 
-pub fn worse(a: u8, b: u8) -> u8
-    ensures { result ≡ worse a b }
+// An optional one.
+pub fn optional_code_severity(code: Code, d: &[u8], found: Found) -> Severity
+    requires { Placed d.now found }
+    ensures { level result ≡ optional_found (code_allowed (code_texts code)) d.now found }
 {
-    if a < b { b } else { a }
+    let v = value(d, found);
+    let allowed = values::code_in(code, v).is_some();
+    optional_severity(found, texts::is_blank(v), allowed)
 }
 
-pub fn status_of(worst: u8) -> u16
-    ensures { result ≡ status_of worst }
+pub fn is_given(found: Found, empty: bool) -> bool
+    ensures { result ≡ given_by (kind_of found) empty }
 {
-    if worst == 3 {
-        return 0x0120;
+    match found {
+        Found::Missing => false,
+        Found::Value(_) => !empty,
+        Found::Sequence(_) => true,
     }
-    if worst == 2 {
-        return 0x0121;
+}
+
+// What a code gives, or what is kept where it is absent. The book counts the texts where the value is none of them.
+pub fn code_or(code: Code, d: &[u8], found: Found, kept: u8) -> u8
+    requires { Placed d.now found }
+    ensures { result ≡ found_or (code_in (code_texts code)) d.now found kept }
+{
+    let v = value(d, found);
+    if !is_given(found, texts::is_blank(v)) {
+        return kept;
     }
-    if worst == 1 {
-        return 0x0106;
+    values::code_in(code, v).unwrap_or(values::code_texts(code).len()) as u8
+}
+
+#[tactic(auto, using(crate::proofs::Laws::greater))]
+pub fn worse(a: Severity, b: Severity) -> Severity
+    ensures { level result ≡ worse (level a) (level b) }
+{
+    a.max(b)
+}
+
+// The failure that the worst of them gives.
+pub fn status_of(worst: Severity) -> Result<(), Failure>
+    ensures { number_by failures.status_of result ≡ status_of (level worst) }
+{
+    match worst {
+        Severity::Missing => Err(Failure::MissingAttribute),
+        Severity::Empty => Err(Failure::MissingValue),
+        Severity::Wrong => Err(Failure::WrongValue),
+        Severity::Allowed => Ok(()),
     }
-    0
 }

@@ -15,8 +15,7 @@ use tags::{OB, SQ, UN, form_of, named_vr};
 fn implicit_vr(tag: usize, length: usize) -> usize
     ensures { result ≡ implicit_vr tag length }
 {
-    let named = named_vr(tag);
-    if named != 0 {
+    if let Some(named) = named_vr(tag) {
         return named;
     }
     if length == 0xFFFF_FFFF {
@@ -29,20 +28,10 @@ fn implicit_vr(tag: usize, length: usize) -> usize
 fn vr_differs(tag: usize, vr: usize) -> bool
     ensures { result ≡ differs tag vr }
 {
-    let named = named_vr(tag);
-    if named == 0 {
+    let Some(named) = named_vr(tag) else {
         return false;
-    }
-    if named == vr {
-        return false;
-    }
-    if tag != 0x7FE0_0010 {
-        return true;
-    }
-    if vr == OB as usize {
-        return false;
-    }
-    true
+    };
+    named != vr && !(tag == 0x7FE0_0010 && vr == OB as usize)
 }
 
 // The header of an element in implicit VR.
@@ -88,17 +77,14 @@ fn explicit_head(s: &[u8], end: usize, at: usize, floor: usize) -> Head
 {
     let vr = u16_at(s, at + 4);
     let form = form_of(vr);
-    if form == 12 {
+    if form == Some(12) {
         return long_head(s, end, at, floor);
     }
     let tag = tag_at(s, at);
     if tag < floor {
         return Head::Fault(3);
     }
-    if form == 0 {
-        return Head::Fault(4);
-    }
-    if vr_differs(tag, vr) {
+    if form.is_none() || vr_differs(tag, vr) {
         return Head::Fault(4);
     }
     length_head(at + 8, end, vr, u16_at(s, at + 6))

@@ -1,6 +1,6 @@
 -- Elements (PS3.5): the known VRs (rule 5.10), and the tags of rule 5.14 (docs/RULES.md), each with its VR.
 -- A VR is the 16-bit number that its two letters make, little endian: SQ is 0x53 and 0x51, so 0x5153.
-use Rattle.std.specs.Prelude.{ℕ, Bool, List, [], ◌∷◌, eqb}
+use Rattle.std.specs.Prelude.{ℕ, zero, suc, Bool, List, [], ◌∷◌, eqb, Option, Some, None}
 use Rattle.choice.specs.declared.Row.{Row}
 use Rattle.choice.specs.Pick.{pick, both, not}
 use Rattle.choice.specs.Table.{◌is◌, lookup}
@@ -157,6 +157,16 @@ forms =
     ∷ (US is 8)
     ∷ (UT is 12)
     ∷ []
+
+-- what a table has for a key
+abbrev pub entry : ℕ → List Row → Option ℕ
+entry key [] = None
+entry key (row ∷ rows) = pick (eqb row.0 key) (Some row.1) (entry key rows)
+
+-- a number that is given, where 0 says that none is
+abbrev pub given : ℕ → Option ℕ
+given zero = None
+given (suc n) = Some (suc n)
 
 -- the VR of a named tag, 0 of another
 unfoldable pub named_vr : ℕ → ℕ

@@ -2,7 +2,7 @@
 #![tactic(auto)]
 
 ghost use Rattle.std.specs.Prelude.{◌≡◌};
-ghost use Rattle.tags.specs.Table.{named, forms, named_vr, form_of};
+ghost use Rattle.tags.specs.Table.{named, forms, entry, given, named_vr, form_of};
 
 use choice::Row;
 
@@ -144,35 +144,29 @@ fn forms() -> [Row; 27]
     FORMS
 }
 
-// The size of the explicit header of a VR, 0 of an unknown one.
-pub fn form_of(vr: usize) -> usize
-    ensures { result ≡ form_of vr }
+// What a table has for a key. The table comes as a value, and not as a slice: of one that is constant the compiler makes
+// tests alone, and a walk of elements takes a third of the time.
+fn look_up<const N: usize>(rows: [Row; N], key: usize) -> Option<usize>
+    ensures { result ≡ entry key rows.entry }
 {
-    // the table is laid out once a call, not once a turn
-    let rows = forms();
-    let mut i = 0;
-    while i < 27 {
-        let row = rows[i];
-        if row.0 as usize == vr {
-            return row.1 as usize;
+    for row in rows {
+        if row.0 as usize == key {
+            return Some(row.1 as usize);
         }
-        i += 1;
     }
-    0
+    None
 }
 
-// The VR of a named tag, 0 of another.
-pub fn named_vr(tag: usize) -> usize
-    ensures { result ≡ named_vr tag }
+// The size of the explicit header of a VR that is known.
+pub fn form_of(vr: usize) -> Option<usize>
+    ensures { result ≡ given (form_of vr) }
 {
-    let rows = named();
-    let mut i = 0;
-    while i < 35 {
-        let row = rows[i];
-        if row.0 as usize == tag {
-            return row.1 as usize;
-        }
-        i += 1;
-    }
-    0
+    look_up(forms(), vr)
+}
+
+// The VR of a named tag.
+pub fn named_vr(tag: usize) -> Option<usize>
+    ensures { result ≡ given (named_vr tag) }
+{
+    look_up(named(), tag)
 }

@@ -1,6 +1,6 @@
 -- The oldest entry: its bytes, and what the rules of the records say of it.
 -- Assumes nothing.
-use Prim.Native.Nat.{ℕ, zero, suc, ◌+◌, ◌*◌, ◌-◌, ◌≤◌}
+use Prim.Native.Nat.{ℕ, zero, suc, ◌+◌, ◌*◌, ◌≤◌}
 use mathlib.Core.Path.{◌≡◌, refl, sym, ap, subst, ◌∙◌}
 use mathlib.Core.Bool.{Bool, true, false}
 use mathlib.Core.List.{List, [], ◌∷◌, ◌++◌, append_assoc, append-nil}
@@ -149,11 +149,11 @@ module _ (b : List ℕ) (o : Bytes b) (unbroken : first_broken (records_rules b)
     some : 1 ≤ length (entries_of (core_in b).queue)
     some = let h = eqb-false (length (entries_of (core_in b).queue)) 0 kept_rules.1.0 in omega arith
 
-    pub left_asked : (records_size ≤ length b) × (queued (entries_of (queue_in b)) ≡ queue_in b) × (1 ≤ (queue_in b).count) × ((queue_in b).count ≤ 16)
+    pub left_asked : (queued (entries_of (queue_in b)) ≡ queue_in b) × (1 ≤ (queue_in b).count) × ((queue_in b).count ≤ 16)
     left_asked =
         let n = counted (core_in b).queue tidy_core in
         let some_in : 1 ≤ (core_in b).queue.count = omega (arith, some, n) in
-        (long, tidy, subst (λ (q : Queue). 1 ≤ q.count) (core_queue b) some_in, subst (λ (q : Queue). q.count ≤ 16) (core_queue b) (queue_few (core_in b) ready.kept))
+        (tidy, subst (λ (q : Queue). 1 ≤ q.count) (core_queue b) some_in, subst (λ (q : Queue). q.count ≤ 16) (core_queue b) (queue_few (core_in b) ready.kept))
 
     -- the oldest stands first
     first_entry : get_or (entries_of (core_in b).queue) 0 no_entry ≡ entry_format.read b entries_place
@@ -163,7 +163,7 @@ module _ (b : List ℕ) (o : Bytes b) (unbroken : first_broken (records_rules b)
         let full : length entries ≡ most_entries = ((array_laws most_entries entry_steps.laws).good b entries_place o).0 in
         let place : entries_place + 0 * entry_format.size ≡ entries_place = omega arith in
         ap (λ (q : Queue). get_or (entries_of q) 0 no_entry) (core_queue b)
-        ∙ sym (first_taken (get_or b queue_place 0) entries entry_format.blank no_entry left_asked.2 (omega arith))
+        ∙ sym (first_taken (get_or b queue_place 0) entries entry_format.blank no_entry left_asked.1 (omega arith))
         ∙ get_read entry_format b entries_place most_entries 0 (omega arith)
         ∙ ap (entry_format.read b) place
 
@@ -171,14 +171,13 @@ module _ (b : List ℕ) (o : Bytes b) (unbroken : first_broken (records_rules b)
     unfolding taken
     taken_bytes = rw (core_numbers b, first_entry)
 
-    pub oldest_asked : (entry_room ≤ room) × (records_size ≤ length b) × ((numbers_in b).used ≤ 40) × ((name_format.read b film_place).used ≤ 64)
+    pub oldest_asked : (entry_room ≤ room) × ((numbers_in b).used ≤ 40) × ((name_format.read b film_place).used ≤ 64)
     unfolding entry_format picture_format
     oldest_asked =
         let facts = core_facts (core_in b) ready.kept in
         let right = every_at (entry_sound (core_in b).numbers) (entries_of (core_in b).queue) 0 no_entry (queue_facts (core_in b).numbers (core_in b).queue facts.queue).entries some in
         let short = name_short (core_in b).numbers _ (entry_name (core_in b).numbers _ right) in (
           ltb-false room entry_room kept_rules.0,
-          long,
           subst (λ (n : Numbers). n.used ≤ 40) (core_numbers b) (between_true 1 40 (core_in b).numbers.used (numbers_facts (core_in b).numbers facts.numbers).used).1,
           subst (λ (x : Entry). x.film.used ≤ 64) first_entry short,
         )

@@ -1,13 +1,13 @@
 -- The entries behind the oldest move one place down, and the last place is blank: so the queue without the oldest is written.
 -- Assumes nothing.
-use Prim.Native.Nat.{ℕ, zero, suc, ◌+◌, ◌*◌, ◌-◌, ◌<◌, ◌≤◌}
+use Prim.Native.Nat.{ℕ, zero, suc, ◌+◌, ◌*◌, ◌-◌, ◌≤◌}
 use mathlib.Core.Path.{◌≡◌, refl, sym, ap, ◌∙◌}
 use mathlib.Core.List.{List, [], ◌∷◌, ◌++◌, append_assoc}
 use native.Mathlib.Nat.{suc-mul}
 use native.Mathlib.Numerals.{add-one}
 use native.Mathlib.Omega.{arith}
-use lib.ListN.{length, get_or, set, take, drop, replicate, length-append, length-drop, get_or-append}
-use lib.Seq.{drop-append-le, paste, paste-suc, drop-paste, get_or-drop, get_or_at, length-take-le}
+use lib.ListN.{length, get_or, take, drop, replicate, length-append, length-drop, get_or-append}
+use lib.Seq.{drop-append-le, paste, get_or_at, length-take-le}
 use Rattle.octets.specs.Octets.{octets, laid, Bytes}
 use Rattle.fields.specs.Format.{Format, write, byte, read_all, bytes_all, array}
 use Rattle.fields.proofs.Laws.{Laws, array_laws}
@@ -27,28 +27,15 @@ use Rattle.shelves.proofs.Filled.{Holds, holds_without}
 use Rattle.writing.proofs.Chain.{laid_next_two}
 use Rattle.taking.specs.Oldest.{entries_place}
 
--- One turn: the next byte moves down by so many places.
+-- The bytes that were so many places further up.
 
-abbrev pub moved : List ℕ → ℕ → ℕ → ℕ → List ℕ
+abbrev moved : List ℕ → ℕ → ℕ → ℕ → List ℕ
 moved s at by i = paste s at (drop (at + by) s) i
 
-pub moved_more : (s : List ℕ) (at by i : ℕ) → at + by + i < length s → set (moved s at by i) (at + i) (get_or (moved s at by i) (at + by + i) 0) ≡ moved s at by (i + 1)
-moved_more s at by i h =
-    let l = length-drop (at + by) s in
-    let there : at + by + i ≡ at + i + by = omega arith in
-    let same : get_or (moved s at by i) (at + by + i) 0 ≡ get_or (drop (at + by) s) i 0 =
-    ap (λ (n : ℕ). get_or (moved s at by i) n 0) there
-    ∙ sym (get_or-drop (at + i) (moved s at by i) by 0)
-    ∙ ap (λ (t : List ℕ). get_or t by 0) (drop-paste s at (drop (at + by) s) i (omega arith) (omega arith))
-    ∙ get_or-drop (at + i) s by 0
-    ∙ ap (λ (n : ℕ). get_or s n 0) (sym there)
-    ∙ sym (get_or-drop (at + by) s i 0) in
-    rw (same, add-one) (paste-suc s at (drop (at + by) s) i 0 (omega arith) (omega arith))
-
-pub moved_all : (s : List ℕ) (at by n i : ℕ) → i ≡ n → at + by + n ≤ length s → moved s at by i ≡ laid s at (take n (drop (at + by) s))
-moved_all s at by n i e h =
+pub moved_all : (s : List ℕ) (at by n : ℕ) → at + by + n ≤ length s → moved s at by n ≡ laid s at (take n (drop (at + by) s))
+moved_all s at by n h =
     let l = length-take-le n (drop (at + by) s) (omega (arith, length-drop (at + by) s)) in
-    rw (e, l) (append_assoc (take at s) (take n (drop (at + by) s)) (drop (at + n) s))
+    rw l (append_assoc (take at s) (take n (drop (at + by) s)) (drop (at + n) s))
 
 -- The bytes of an array without its first element, and with another at its end.
 

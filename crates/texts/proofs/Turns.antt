@@ -1,67 +1,51 @@
 -- What one turn of each loop does.
 -- Assumes nothing.
-use Prim.Native.Nat.{ℕ, suc, ◌+◌, ◌*◌, ◌-◌, ◌<◌, ◌≤◌}
-use mathlib.Core.Path.{◌≡◌, refl, sym, ap, ◌∙◌}
-use mathlib.Core.Bool.{true, false}
-use mathlib.Core.List.{List, [], ◌∷◌, ◌++◌}
+use Prim.Native.Nat.{ℕ, zero, suc, ◌+◌, ◌*◌, ◌-◌, ◌<◌, ◌≤◌}
+use mathlib.Core.Path.{◌≡◌, refl, ap, ◌∙◌}
+use mathlib.Core.Bool.{Bool, true, false}
+use mathlib.Core.List.{List, [], ◌∷◌}
 use native.Mathlib.Numerals.{add-one}
 use native.Mathlib.Omega.{arith}
 use lib.ListN.{length, get_or, take, drop, drop_of_length-le}
-use lib.Seq.{drop-cons, take-suc}
-use borrow.Author.Tests.{eq-eqb, ne_eqb, le-leb, lt-leb}
-use Rattle.choice.specs.Pick.{pick, both}
-use Rattle.choice.proofs.Picks.{pick_cases}
+use lib.Seq.{drop-cons}
+use borrow.Author.Tests.{eq-eqb, ne_eqb, le-leb, lt-leb, leb-true}
+use lib.Dec.{eqb, leb}
+use Rattle.std.specs.Prelude.{◌↔◌, IsTrue, EachIndex, slice_index}
+use Rattle.std.specs.Cmp.{both_ways}
+use Rattle.choice.specs.Pick.{pick, both, not}
+use Rattle.choice.proofs.Picks.{pick_cases, both_true, clash, not_true}
 use Rattle.uids.specs.Uids.{digits}
 use Rattle.rules.specs.Lists.{every}
 use Rattle.rules.specs.Values.{without_leading, unless_space, without_trailing, trimmed, without_plus, decimal_value, count_in, label_byte}
 use Rattle.texts.specs.Counted.{counted}
 
--- Spaces in front.
+-- Spaces in front: so many, and what comes next is none.
 
-module _ (s : List ℕ) (i : ℕ) where
-  pub leading_space : i < length s → get_or s i 0 ≡ 0x20 → without_leading (drop i s) ≡ without_leading (drop (i + 1) s)
-  unfolding without_leading
-  leading_space h e = rw (add-one i, drop-cons s i 0 h, eq-eqb (get_or s i 0) 0x20 e)
+pub leading_told : (s : List ℕ) (n : ℕ) → n ≤ length s → ((k : ℕ) → k < n → get_or s k 0 ≡ 0x20) → (n < length s → get_or s n 0 ≡ 0x20 → ⊥) → without_leading s ≡ drop n s
+unfolding without_leading
+leading_told [] zero l each stop = refl
+leading_told [] (suc n) l each stop = absurd (omega arith)
+leading_told (c ∷ s) zero l each stop = rw (ne_eqb c 0x20 (stop (omega arith)))
+leading_told (c ∷ s) (suc n) l each stop =
+    rw (eq-eqb c 0x20 (each 0 (omega arith)))
+    (leading_told s n (omega arith) (λ k h. each (suc k) (omega arith)) (λ h. stop (omega arith)))
 
-  pub leading_stop : i < length s → (get_or s i 0 ≡ 0x20 → ⊥) → without_leading (drop i s) ≡ drop i s
-  unfolding without_leading
-  leading_stop h n = rw (drop-cons s i 0 h, ne_eqb (get_or s i 0) 0x20 n)
+-- Spaces at the end: all from a place on, and the one before it is none.
 
-  pub leading_end : length s ≤ i → without_leading (drop i s) ≡ drop i s
-  unfolding without_leading
-  leading_end h = rw (drop_of_length-le s h)
-
--- Spaces at the end.
-
-trailing_one : (xs : List ℕ) → without_trailing (xs ++ (0x20 ∷ [])) ≡ without_trailing xs
+pub trailing_told : (s : List ℕ) (n : ℕ) → n ≤ length s → ((k : ℕ) → n ≤ k → k < length s → get_or s k 0 ≡ 0x20) → ((k : ℕ) → n ≡ k + 1 → get_or s k 0 ≡ 0x20 → ⊥) → without_trailing s ≡ take n s
 unfolding without_trailing
-trailing_one [] = refl
-trailing_one (x ∷ xs) = ap (unless_space x) (trailing_one xs)
-
-held : (x : ℕ) (xs : List ℕ) (c : ℕ) → unless_space x (xs ++ (c ∷ [])) ≡ x ∷ (xs ++ (c ∷ []))
-held x [] c = refl
-held x (y ∷ xs) c = refl
-
-trailing_none : (xs : List ℕ) (c : ℕ) → (c ≡ 0x20 → ⊥) → without_trailing (xs ++ (c ∷ [])) ≡ xs ++ (c ∷ [])
-unfolding without_trailing
-trailing_none [] c n = rw (ne_eqb c 0x20 n)
-trailing_none (x ∷ xs) c n = ap (unless_space x) (trailing_none xs c n) ∙ held x xs c
-
-last_of : (s : List ℕ) (n : ℕ) → 0 < n → n ≤ length s → take n s ≡ take (n - 1) s ++ (get_or s (n - 1) 0 ∷ [])
-last_of s n h k =
-    let e : n ≡ suc (n - 1) = omega arith in
-    ap (λ m. take m s) e ∙ take-suc s (n - 1) 0 (omega arith)
-
-module _ (s : List ℕ) (n : ℕ) (h : 0 < n) (k : n ≤ length s) where
-  pub trailing_space : get_or s (n - 1) 0 ≡ 0x20 → without_trailing (take n s) ≡ without_trailing (take (n - 1) s)
-  trailing_space e = ap without_trailing (last_of s n h k ∙ ap (λ c. take (n - 1) s ++ (c ∷ [])) e) ∙ trailing_one (take (n - 1) s)
-
-  pub trailing_stop : (get_or s (n - 1) 0 ≡ 0x20 → ⊥) → without_trailing (take n s) ≡ take n s
-  trailing_stop e = ap without_trailing (last_of s n h k) ∙ trailing_none (take (n - 1) s) (get_or s (n - 1) 0) e ∙ sym (last_of s n h k)
-
-pub trailing_end : (s : List ℕ) (n : ℕ) → n ≤ 0 → without_trailing (take n s) ≡ take n s
-unfolding without_trailing
-trailing_end s n h = let e : n ≡ 0 = omega arith in rw e
+trailing_told [] zero l each stop = refl
+trailing_told [] (suc n) l each stop = absurd (omega arith)
+trailing_told (c ∷ s) zero l each stop =
+    ap (unless_space c) (trailing_told s zero (omega arith) (λ k g h. each (suc k) (omega arith) (omega arith)) (λ k e. absurd (omega (arith, e))))
+    ∙ rw (eq-eqb c 0x20 (each 0 (omega arith) (omega arith)))
+trailing_told (c ∷ s) (suc zero) l each stop =
+    ap (unless_space c) (trailing_told s zero (omega arith) (λ k g h. each (suc k) (omega arith) (omega arith)) (λ k e. absurd (omega (arith, e))))
+    ∙ rw (ne_eqb c 0x20 (stop 0 (omega arith)))
+trailing_told (c ∷ []) (suc (suc n)) l each stop = absurd (omega arith)
+trailing_told (c ∷ (d ∷ s)) (suc (suc n)) l each stop =
+    ap (unless_space c)
+    (trailing_told (d ∷ s) (suc n) (omega arith) (λ k g h. each (suc k) (omega arith) (omega arith)) (λ k e. stop (suc k) (omega (arith, e))))
 
 -- A sign.
 
@@ -95,13 +79,16 @@ counted_over most front s h =
     (pick_cases (λ b. pick b (decimal_value front s) 0 ≡ 0) (digits s) false false (λ _. refl) (λ _. refl))
 
 module _ (most front : ℕ) (s : List ℕ) (i : ℕ) where
-  pub counted_low : i < length s → get_or s i 0 < 48 → counted most front (drop i s) ≡ 0
+  pub counted_not : i < length s → ((48 ≤ get_or s i 0) × (get_or s i 0 ≤ 57) → ⊥) → counted most front (drop i s) ≡ 0
   unfolding counted digits
-  counted_low h l = rw (drop-cons s i 0 h, lt-leb 48 (get_or s i 0) l)
-
-  pub counted_high : i < length s → 48 ≤ get_or s i 0 → 57 < get_or s i 0 → counted most front (drop i s) ≡ 0
-  unfolding counted digits
-  counted_high h g l = rw (drop-cons s i 0 h, le-leb 48 (get_or s i 0) g, lt-leb (get_or s i 0) 57 l)
+  counted_not h n = rw (drop-cons s i 0 h) (turn (both (leb 48 (get_or s i 0)) (leb (get_or s i 0) 57)) refl)
+    where
+      turn : (t : Bool) → both (leb 48 (get_or s i 0)) (leb (get_or s i 0) 57) ≡ t
+          → pick (both (both t (digits (drop (suc i) s))) (leb (decimal_value front (get_or s i 0 ∷ drop (suc i) s)) most)) (decimal_value front (get_or s i 0 ∷ drop (suc i) s)) 0 ≡ 0
+      turn true e =
+          let d = both_true (leb 48 (get_or s i 0)) (leb (get_or s i 0) 57) e in
+          absurd (n (leb-true 48 (get_or s i 0) d.0, leb-true (get_or s i 0) 57 d.1))
+      turn false e = refl
 
   pub counted_turn : i < length s → 48 ≤ get_or s i 0 → get_or s i 0 ≤ 57 → counted most front (drop i s) ≡ counted most (10 * front + (get_or s i 0 - 48)) (drop (i + 1) s)
   unfolding counted digits decimal_value
@@ -113,14 +100,27 @@ module _ (most front : ℕ) (s : List ℕ) (i : ℕ) where
 
 -- Characters of a label.
 
-module _ (s : List ℕ) (i : ℕ) where
-  pub label_turn : i < length s → every label_byte (drop i s) ≡ both (label_byte (get_or s i 0)) (every label_byte (drop (i + 1) s))
-  unfolding every
-  label_turn h = rw (add-one i, drop-cons s i 0 h)
+abbrev Labels : List ℕ → Type 0
+Labels s = EachIndex s (λ k. (0x20 ≤ slice_index s k) × (slice_index s k ≤ 0x7E) × (slice_index s k ≡ 0x5C → ⊥))
 
-  pub label_end : length s ≤ i → every label_byte (drop i s) ≡ true
-  unfolding every
-  label_end h = rw (drop_of_length-le s h)
+label_all : (s : List ℕ) → Labels s → every label_byte s ≡ true
+unfolding every
+label_all [] each = refl
+label_all (c ∷ s) each =
+    let d = each 0 (omega arith) in
+    rw (le-leb 0x20 c d.0, le-leb c 0x7E d.1, ne_eqb c 0x5C d.2) (label_all s (λ k h. each (suc k) (omega arith)))
+
+label_at : (s : List ℕ) → every label_byte s ≡ true → Labels s
+unfolding every
+label_at [] e k h = absurd (omega arith)
+label_at (c ∷ s) e zero h =
+    let d = both_true (leb 0x20 c) _ (both_true (label_byte c) (every label_byte s) e).0 in
+    let f = both_true (leb c 0x7E) (not (eqb c 0x5C)) d.1 in
+    (leb-true 0x20 c d.0, leb-true c 0x7E f.0, λ z. clash (not_true (eqb c 0x5C) f.1) (eq-eqb c 0x5C z))
+label_at (c ∷ s) e (suc k) h = label_at s (both_true (label_byte c) (every label_byte s) e).1 k (omega arith)
+
+pub label_each : (s : List ℕ) (r : Bool) → (IsTrue r ↔ Labels s) → r ≡ every label_byte s
+label_each s r e = both_ways r (every label_byte s) (λ k. label_all s (e.0 k)) (λ k. e.1 (label_at s k))
 
 -- A count, by what its text is.
 

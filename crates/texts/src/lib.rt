@@ -6,55 +6,31 @@ ghost use Rattle.rules.specs.Lists.{every};
 ghost use Rattle.rules.specs.Values.{without_leading, without_trailing, trimmed, blank, without_plus, count_in, label_byte, label_allowed};
 ghost use Rattle.texts.specs.Counted.{counted};
 
-const SPACE: u8 = b' ';
-
-const PLUS: u8 = b'+';
-
-const ZERO: u8 = b'0';
-
-const NINE: u8 = b'9';
-
 // How many spaces stand in front.
 fn leading(s: &[u8]) -> usize
     ensures { (without_leading s.now ≡ drop result s.now) × (result ≤ length s.now) }
 {
-    let mut i = 0;
-    while i < s.len() {
-        if s[i] != SPACE {
-            return i;
-        }
-        i += 1;
-    }
-    i
+    s.iter().position(|c| *c != b' ').unwrap_or(s.len())
 }
 
 // How many bytes are left before the spaces at the end.
 fn kept(s: &[u8]) -> usize
     ensures { (without_trailing s.now ≡ take result s.now) × (result ≤ length s.now) }
 {
-    let mut n = s.len();
-    while 0 < n {
-        if s[n - 1] != SPACE {
-            return n;
-        }
-        n -= 1;
-    }
-    n
+    s.iter().rposition(|c| *c != b' ').map_or(0, |i| i + 1)
 }
 
 fn without_leading(s: &[u8]) -> &[u8]
     ensures { result.now ≡ without_leading s.now }
 {
-    let a = leading(s);
-    &s[a..]
+    &s[leading(s)..]
 }
 
 // An ST value: trailing spaces do not count.
 pub fn without_trailing(s: &[u8]) -> &[u8]
     ensures { result.now ≡ without_trailing s.now }
 {
-    let n = kept(s);
-    &s[0..n]
+    &s[..kept(s)]
 }
 
 // A CS, IS or LO value: leading and trailing spaces do not count.
@@ -67,19 +43,16 @@ pub fn trimmed(s: &[u8]) -> &[u8]
 pub fn is_blank(s: &[u8]) -> bool
     ensures { result ≡ blank s.now }
 {
-    trimmed(s).len() == 0
+    trimmed(s).is_empty()
 }
 
 fn without_plus(s: &[u8]) -> &[u8]
     ensures { result.now ≡ without_plus s.now }
 {
-    if s.len() == 0 {
-        return s;
+    match s {
+        [b'+', rest @ ..] => rest,
+        _ => s,
     }
-    if s[0] == PLUS {
-        return &s[1..];
-    }
-    s
 }
 
 // The number that digits give, 0 where they are none or give more than `most`.
@@ -88,24 +61,19 @@ fn digits_count(s: &[u8], most: usize) -> usize
     ensures { (result ≡ counted most 0 s.now) × (result ≤ most) }
 {
     let mut v = 0;
-    let mut i = 0;
-    while i < s.len() {
-        if s[i] < ZERO {
+    for c in s {
+        if !c.is_ascii_digit() {
             return 0;
         }
-        if NINE < s[i] {
-            return 0;
-        }
-        v = 10 * v + (s[i] - ZERO) as usize;
+        v = 10 * v + usize::from(*c - b'0');
         if most < v {
             return 0;
         }
-        i += 1;
     }
     v
 }
 
-// The number that an IS gives, 0 where it gives none from 1 to `most`.
+// The number that an IS gives, 0 where it gives none from 1 to `most`: as a record's byte holds it.
 pub fn count_in(s: &[u8], most: usize) -> usize
     requires { most < 4294967296 }
     ensures { (result ≡ count_in most s.now) × (result ≤ most) }
@@ -115,7 +83,7 @@ pub fn count_in(s: &[u8], most: usize) -> usize
         return 0;
     }
     let u = without_plus(v);
-    if u.len() == 0 {
+    if u.is_empty() {
         return 0;
     }
     digits_count(u, most)
@@ -124,20 +92,7 @@ pub fn count_in(s: &[u8], most: usize) -> usize
 fn label_bytes(s: &[u8]) -> bool
     ensures { result ≡ every label_byte s.now }
 {
-    let mut i = 0;
-    while i < s.len() {
-        if s[i] < 0x20 {
-            return false;
-        }
-        if 0x7E < s[i] {
-            return false;
-        }
-        if s[i] == b'\\' {
-            return false;
-        }
-        i += 1;
-    }
-    true
+    s.iter().all(|c| matches!(c, 0x20..=0x7E) && *c != b'\\')
 }
 
 // Whether an LO is a label.
@@ -145,8 +100,5 @@ pub fn label_allowed(s: &[u8]) -> bool
     ensures { result ≡ label_allowed s.now }
 {
     let v = trimmed(s);
-    if 64 < v.len() {
-        return false;
-    }
-    label_bytes(v)
+    v.len() <= 64 && label_bytes(v)
 }

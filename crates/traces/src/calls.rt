@@ -116,8 +116,7 @@ fn close(records: &mut [u8], reply: &[u8]) -> bool {
 
 // The calls that are lent no message buffer. A line that is no call has no reply.
 fn call_without_message(records: &mut [u8], line: &[u8], reply: &[u8]) -> bool {
-    let root = after(line, 0, b"start ");
-    if root <= line.len() {
+    if let Some(root) = after(line, 0, b"start ") {
         return start(records, line, root, reply);
     }
     if same_bytes(line, b"take") {
@@ -137,15 +136,13 @@ pub fn call(
     line: &[u8],
     reply: &[u8],
 ) -> Outcome {
-    let fragment = after(line, 0, b"feed ");
-    if fragment <= line.len() {
+    if let Some(fragment) = after(line, 0, b"feed ") {
         return came_to(
             feed_line(records, message, room, line, fragment, reply),
             room,
         );
     }
-    let context = after(line, 0, b"open ");
-    if context <= line.len() {
+    if let Some(context) = after(line, 0, b"open ") {
         return open(records, message, room, line, context, reply);
     }
     came_to(call_without_message(records, line, reply), room)

@@ -38,7 +38,7 @@ fn line_at(s: &[u8], at: usize) -> Line
     requires { at ≤ length s.now }
     ensures { (at ≤ result.stop) × (result.stop ≤ length s.now) × (result.next ≤ length s.now) × (min (at + 1) (length s.now) ≤ result.next) }
 {
-    let stop = find(s, at, s.len(), b'\n');
+    let stop = find(s, at, b'\n');
     if stop < s.len() {
         return Line {
             stop,
@@ -63,6 +63,7 @@ fn replayed(records: &mut [u8], message: &mut [u8], trace: &[u8], kept: &[u8]) -
     let mut passed = 0;
     let mut at = 0;
     let mut told = 0;
+    // the next place depends on the line that was read
     while at < trace.len() {
         let line = line_at(trace, at);
         let reply = line_at(kept, told);

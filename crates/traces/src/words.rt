@@ -1,21 +1,19 @@
 // The words of a call: numbers, and bytes in hexadecimal.
 ghost use Rattle.std.specs.Prelude.{◌≡◌, ◌≢◌, ℕ, ◌≤◌, ◌<◌, length, slice_index};
 
-// The first place of a byte from `at` on and before `end`, else `end`.
-pub fn find(s: &[u8], at: usize, end: usize, b: u8) -> usize
-    requires { (at ≤ end) × (end ≤ length s.now) }
-    ensures within { (at ≤ result) × (result ≤ end) }
+// The first place of a byte from `at` on, else the end.
+pub fn find(s: &[u8], at: usize, b: u8) -> usize
+    requires { at ≤ length s.now }
+    ensures within { (at ≤ result) × (result ≤ length s.now) }
     ensures before { (k : ℕ) → at ≤ k → k < result → slice_index s.now k ≢ b }
-    ensures found { result < end → slice_index s.now result ≡ b }
+    ensures found { result < length s.now → slice_index s.now result ≡ b }
 {
-    let mut i = at;
-    while i < end {
+    for i in at..s.len() {
         if s[i] == b {
             return i;
         }
-        i += 1;
     }
-    end
+    s.len()
 }
 
 // Where the word at a place stops.
@@ -23,7 +21,7 @@ pub fn word_stop(line: &[u8], at: usize) -> usize
     requires { at ≤ length line.now }
     ensures { (at ≤ result) × (result ≤ length line.now) }
 {
-    find(line, at, line.len(), b' ')
+    find(line, at, b' ')
 }
 
 // Where the word after that at a place begins.
@@ -42,51 +40,28 @@ pub fn next_word(line: &[u8], at: usize) -> usize
 fn digit(c: u8) -> u8
     ensures { result < 16 }
 {
-    if c < b'0' {
-        return 0;
+    match c {
+        b'0'..=b'9' => c - b'0',
+        b'a'..=b'f' => c - b'a' + 10,
+        _ => 0,
     }
-    if c <= b'9' {
-        return c - b'0';
-    }
-    if c < b'a' {
-        return 0;
-    }
-    if c <= b'f' {
-        return c - b'a' + 10;
-    }
-    0
-}
-
-fn wide(b: u8) -> u64
-    ensures { result < 256 }
-{
-    b as u64
 }
 
 // The number at a place. No call takes one of more than 12 digits.
 pub fn number(line: &[u8], at: usize) -> u64 {
     let mut n: u64 = 0;
-    let mut i = at;
-    while i < line.len() {
-        if line[i] == b' ' {
+    for c in line.iter().skip(at) {
+        if *c == b' ' || 99999999999 < n {
             return n;
         }
-        if 99999999999 < n {
-            return n;
-        }
-        n = 10 * n + wide(digit(line[i]));
-        i += 1;
+        n = 10 * n + u64::from(digit(*c));
     }
     n
 }
 
 // The number at a place, cut to 32 bits.
 pub fn number32(line: &[u8], at: usize) -> u32 {
-    let n = number(line, at);
-    if 4294967295 < n {
-        return 4294967295;
-    }
-    n as u32
+    u32::try_from(number(line, at)).unwrap_or(u32::MAX)
 }
 
 // Puts the bytes of a word in hexadecimal at the start of a buffer, and answers how many there are. - has none.
@@ -97,10 +72,8 @@ pub fn bytes_of(word: &[u8], out: &mut [u8]) -> usize
     if out.len() < half {
         return 0;
     }
-    let mut i = 0;
-    while i < half {
+    for i in 0..half {
         out[i] = 16 * digit(word[2 * i]) + digit(word[2 * i + 1]);
-        i += 1;
     }
     half
 }

@@ -1,29 +1,40 @@
 -- What one turn of each loop does, and what a test of the code tells.
 -- Assumes nothing.
-use Prim.Native.Nat.{ℕ, suc, ◌+◌, ◌-◌, ◌<◌, ◌≤◌}
+use Prim.Native.Nat.{ℕ, zero, suc, ◌+◌, ◌-◌, ◌<◌, ◌≤◌}
 use mathlib.Core.Path.{◌≡◌, refl, sym}
-use mathlib.Core.Bool.{true, false}
+use mathlib.Core.Bool.{Bool, true, false}
 use mathlib.Core.List.{List, [], ◌∷◌, ◌++◌}
 use native.Mathlib.Numerals.{add-one}
 use native.Mathlib.Omega.{arith}
 use lib.Dec.{leb}
 use lib.ListN.{length, get_or, take, drop, length-drop, drop_of_length-le, get_or-eq_default}
 use lib.Seq.{drop-cons, take-suc, get_or-drop}
-use borrow.Author.Tests.{eq-eqb, ne_eqb}
-use Rattle.choice.specs.Pick.{both, not}
-use Rattle.choice.proofs.Picks.{pick_cases}
+use borrow.Author.Tests.{eq-eqb, ne_eqb, le-leb, leb-true}
+use Rattle.std.specs.Prelude.{◌↔◌, IsTrue, EachIndex, slice_index}
+use Rattle.std.specs.Cmp.{both_ways}
+use Rattle.choice.specs.Pick.{both}
+use Rattle.choice.proofs.Picks.{pick_cases, both_true}
 use Rattle.octets.specs.Octets.{part, same}
 use Rattle.uids.specs.Uids.{digits, component, components, begins_with}
 
--- one character more is a digit or not
-pub digits_turn : (s : List ℕ) (i : ℕ) → i < length s
-    → digits (drop i s) ≡ both (both (leb 48 (get_or s i 0)) (leb (get_or s i 0) 57)) (digits (drop (i + 1) s))
+-- each character is a digit
+digits_all : (s : List ℕ) → EachIndex s (λ k. (48 ≤ slice_index s k) × (slice_index s k ≤ 57)) → digits s ≡ true
 unfolding digits
-digits_turn s i h = rw (add-one i, drop-cons s i 0 h)
+digits_all [] each = refl
+digits_all (c ∷ s) each =
+    let d = each 0 (omega arith) in
+    rw (le-leb 48 c d.0, le-leb c 57 d.1) (digits_all s (λ k h. each (suc k) (omega arith)))
 
-pub digits_end : (s : List ℕ) (i : ℕ) → length s ≤ i → digits (drop i s) ≡ true
+digit_at : (s : List ℕ) → digits s ≡ true → EachIndex s (λ k. (48 ≤ slice_index s k) × (slice_index s k ≤ 57))
 unfolding digits
-digits_end s i h = rw (drop_of_length-le s h)
+digit_at [] e k h = absurd (omega arith)
+digit_at (c ∷ s) e zero h =
+    let d = both_true (leb 48 c) (leb c 57) (both_true (both (leb 48 c) (leb c 57)) (digits s) e).0 in
+    (leb-true 48 c d.0, leb-true c 57 d.1)
+digit_at (c ∷ s) e (suc k) h = digit_at s (both_true (both (leb 48 c) (leb c 57)) (digits s) e).1 k (omega arith)
+
+pub digits_each : (s : List ℕ) (r : Bool) → (IsTrue r ↔ EachIndex s (λ k. (48 ≤ slice_index s k) × (slice_index s k ≤ 57))) → r ≡ digits s
+digits_each s r e = both_ways r (digits s) (λ k. digits_all s (e.0 k)) (λ k. e.1 (digit_at s k))
 
 part_more : (s : List ℕ) (from i : ℕ) → from ≤ i → i < length s → part s from i ++ (get_or s i 0 ∷ []) ≡ part s from (i + 1)
 part_more s from i h k =

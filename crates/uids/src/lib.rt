@@ -4,63 +4,34 @@
 ghost use Rattle.std.specs.Prelude.{◌≡◌, ◌≤◌, length};
 ghost use Rattle.uids.specs.Uids.{digits, component, is_uid, unpadded, begins_with};
 
-const DOT: u8 = b'.';
-
-const ZERO: u8 = b'0';
-
-const NINE: u8 = b'9';
-
 fn all_digits(s: &[u8]) -> bool
     ensures { result ≡ digits s.now }
 {
-    let mut i = 0;
-    while i < s.len() {
-        if s[i] < ZERO {
-            return false;
-        }
-        if NINE < s[i] {
-            return false;
-        }
-        i += 1;
-    }
-    true
+    s.iter().all(|c| c.is_ascii_digit())
 }
 
 fn is_component(s: &[u8]) -> bool
     ensures { result ≡ component s.now }
 {
-    let n = s.len();
-    if n == 0 {
-        return false;
-    }
-    if !all_digits(s) {
-        return false;
-    }
-    if n == 1 {
-        return true;
-    }
-    s[0] != ZERO
+    !s.is_empty() && all_digits(s) && (s.len() == 1 || s[0] != b'0')
 }
 
 // Whether a slice is a UID, without padding.
 pub fn is_uid(s: &[u8]) -> bool
     ensures { result ≡ is_uid s.now }
 {
-    let n = s.len();
-    if 64 < n {
+    if 64 < s.len() {
         return false;
     }
     // where the component at i began
     let mut from = 0;
-    let mut i = 0;
-    while i < n {
-        if s[i] == DOT {
+    for (i, c) in s.iter().enumerate() {
+        if *c == b'.' {
             if !is_component(&s[from..i]) {
                 return false;
             }
             from = i + 1;
         }
-        i += 1;
     }
     is_component(&s[from..])
 }
@@ -69,19 +40,18 @@ pub fn is_uid(s: &[u8]) -> bool
 pub fn unpadded_length(s: &[u8]) -> usize
     ensures { (result ≡ length (unpadded s.now)) × (result ≤ length s.now) }
 {
-    let n = s.len();
-    if n == 0 {
-        return 0;
+    match s.last() {
+        None => 0,
+        Some(0) => s.len() - 1,
+        Some(_) => s.len(),
     }
-    if s[n - 1] == 0 { n - 1 } else { n }
 }
 
 // A UI value without its padding.
 pub fn unpadded(v: &[u8]) -> &[u8]
     ensures { result.now ≡ unpadded v.now }
 {
-    let n = unpadded_length(v);
-    &v[0..n]
+    &v[..unpadded_length(v)]
 }
 
 // Whether a UID begins with a root and a dot.
@@ -89,11 +59,5 @@ pub fn begins_with(root: &[u8], uid: &[u8]) -> bool
     ensures { result ≡ begins_with root.now uid.now }
 {
     let n = root.len();
-    if uid.len() <= n {
-        return false;
-    }
-    if !octets::same_bytes(root, &uid[0..n]) {
-        return false;
-    }
-    uid[n] == DOT
+    n < uid.len() && octets::same_bytes(root, &uid[..n]) && uid[n] == b'.'
 }

@@ -1,32 +1,37 @@
 -- What each test of a code says.
 -- Assumes nothing.
-use Prim.Native.Nat.{ℕ, suc, ◌-◌}
-use mathlib.Core.Path.{◌≡◌, refl, sym, ap, ◌∙◌}
-use mathlib.Core.Bool.{Bool, true, false}
-use mathlib.Core.List.{List, [], ◌∷◌}
-use native.Mathlib.Omega.{arith}
+use Rattle.std.proofs.Common.{ℕ, ◌+◌, ◌<◌, arith, true, false, List, [], ◌∷◌, length, ◌≡◌, refl, sym, ap, ◌∙◌, Option, None, Some, MatchOption}
+use Rattle.std.specs.Option.{unwrap_or, is_some}
+use Rattle.std.specs.List.{AllWithin, HoldsAt}
+use denote.Ref.{Bor}
 use lib.Dec.{ltb}
-use borrow.Author.Tests.{ltb-true}
+use borrow.Author.Tests.{lt-ltb, le-ltb}
 use Rattle.octets.specs.Octets.{same}
 use Rattle.rules.specs.Lists.{place_of}
 use Rattle.rules.specs.Values.{trimmed, code_in}
+use Rattle.values.specs.Codes.{texts_of}
 
 -- A code, text by text.
 
-module _ (s w : List ℕ) (e : w ≡ trimmed s) (t : List ℕ) (ts : List (List ℕ)) (b : Bool) (f : b ≡ same t w) where
-  pub code_here : b ≡ true → 0 ≡ code_in (t ∷ ts) s
+module _ (s w : List ℕ) (e : w ≡ trimmed s) where
+  pub code_here : (t : Bor (List ℕ)) (ts : List (Bor (List ℕ))) → same t.now w ≡ true → code_in (texts_of (t ∷ ts)) s ≡ 0
   unfolding code_in place_of
-  code_here h = simp (← e, ← f, h)
+  code_here t ts h =
+      let g : same t.now (trimmed s) ≡ true = ap (same t.now) (sym e) ∙ h in
+      rw g
 
-  pub code_next : (n : ℕ) → b ≡ false → ltb 0 n ≡ true → n - 1 ≡ code_in ts s → n ≡ code_in (t ∷ ts) s
+  pub code_next : (t : Bor (List ℕ)) (ts : List (Bor (List ℕ))) → same t.now w ≡ false → code_in (texts_of (t ∷ ts)) s ≡ code_in (texts_of ts) s + 1
   unfolding code_in place_of
-  code_next n h l k =
-      let m : n ≡ suc (n - 1) = omega (arith, ltb-true 0 n l) in
-      let g : same t (trimmed s) ≡ false = ap (λ (x : List ℕ). same t x) (sym e) ∙ sym f ∙ h in
-      m ∙ ap suc k ∙ sym (rw g)
+  code_next t ts h =
+      let g : same t.now (trimmed s) ≡ false = ap (same t.now) (sym e) ∙ h in
+      rw g (omega arith)
 
-pub code_end : (s : List ℕ) → 0 ≡ code_in [] s
-unfolding code_in place_of
-code_end s = refl
+  pub code_end : code_in [] s ≡ 0
+  unfolding code_in place_of
+  code_end = refl
 
-pub ruleset codes = (code_here, code_next, code_end)
+-- the first text that fits is one of them, where there is one
+pub told : {X : Type 0} (Yes No : X → Type 0) (xs : List X) (n : ℕ) (r : Option ℕ)
+    → MatchOption r (AllWithin No xs 0 (length xs)) (λ i. (i < length xs) × HoldsAt Yes xs i × AllWithin No xs 0 i) → n ≡ unwrap_or r (length xs) → is_some r ≡ ltb n (length xs)
+told Yes No xs n None m e = rw e (sym (le-ltb (length xs) (length xs) (omega arith)))
+told Yes No xs n (Some i) m e = rw e (sym (lt-ltb i (length xs) m.0))

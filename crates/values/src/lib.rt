@@ -1,128 +1,73 @@
 // Values: codes and numbers as the book reads them.
 #![tactic(auto)]
 
-ghost use Rattle.std.specs.Prelude.{◌≡◌, ◌≤◌, ◌<◌};
-ghost use Rattle.rules.specs.Values.{code_in, priorities, media, destinations, orientations, magnifications, polarities, photometrics, us_in};
+ghost use Rattle.std.specs.Prelude.{◌≡◌, ◌<◌, length};
+ghost use Rattle.std.specs.Option.{unwrap_or, is_some};
+ghost use Rattle.rules.specs.Values.{code_in, us_in};
+ghost use Rattle.rules.specs.Attributes.{code_allowed};
+ghost use Rattle.values.specs.Codes.{texts_of, code_texts};
 
-// The place of a priority; 3 where it is none.
-pub fn priority_in(s: &[u8]) -> usize
-    ensures { (result ≡ code_in priorities s.now) × (result ≤ 3) }
-{
-    let v = texts::trimmed(s);
-    if octets::same_bytes(b"LOW", v) {
-        return 0;
-    }
-    if octets::same_bytes(b"MED", v) {
-        return 1;
-    }
-    if octets::same_bytes(b"HIGH", v) {
-        return 2;
-    }
-    3
+// The attributes that hold one of a few texts.
+#[derive(Clone, Copy)]
+pub enum Code {
+    Priority,
+    Medium,
+    Destination,
+    Orientation,
+    Magnification,
+    Polarity,
+    Photometric,
 }
 
-// The place of a medium; 3 where it is none.
-pub fn medium_in(s: &[u8]) -> usize
-    ensures { (result ≡ code_in media s.now) × (result ≤ 3) }
+const PRIORITIES: [&[u8]; 3] = [b"LOW", b"MED", b"HIGH"];
+
+const MEDIA: [&[u8]; 3] = [b"PAPER", b"CLEAR FILM", b"BLUE FILM"];
+
+const DESTINATIONS: [&[u8]; 2] = [b"MAGAZINE", b"PROCESSOR"];
+
+const ORIENTATIONS: [&[u8]; 2] = [b"PORTRAIT", b"LANDSCAPE"];
+
+const MAGNIFICATIONS: [&[u8]; 4] = [b"NONE", b"REPLICATE", b"BILINEAR", b"CUBIC"];
+
+const POLARITIES: [&[u8]; 2] = [b"NORMAL", b"REVERSE"];
+
+const PHOTOMETRICS: [&[u8]; 2] = [b"MONOCHROME1", b"MONOCHROME2"];
+
+// The texts of a code, in the book's order.
+#[tactic(auto, unfolding(rules::specs::Text::chars))]
+pub fn code_texts(code: Code) -> &'static [&'static [u8]]
+    ensures { texts_of result.now ≡ code_texts code }
 {
-    let v = texts::trimmed(s);
-    if octets::same_bytes(b"PAPER", v) {
-        return 0;
+    match code {
+        Code::Priority => &PRIORITIES,
+        Code::Medium => &MEDIA,
+        Code::Destination => &DESTINATIONS,
+        Code::Orientation => &ORIENTATIONS,
+        Code::Magnification => &MAGNIFICATIONS,
+        Code::Polarity => &POLARITIES,
+        Code::Photometric => &PHOTOMETRICS,
     }
-    if octets::same_bytes(b"CLEAR FILM", v) {
-        return 1;
-    }
-    if octets::same_bytes(b"BLUE FILM", v) {
-        return 2;
-    }
-    3
 }
 
-// The place of a destination; 2 where it is none.
-pub fn destination_in(s: &[u8]) -> usize
-    ensures { (result ≡ code_in destinations s.now) × (result ≤ 2) }
+// The place of a code's value among its texts.
+pub fn code_in(code: Code, s: &[u8]) -> Option<usize>
+    ensures place { unwrap_or result (length (code_texts code)) ≡ code_in (code_texts code) s.now }
+    ensures known { is_some result ≡ code_allowed (code_texts code) s.now }
 {
-    let v = texts::trimmed(s);
-    if octets::same_bytes(b"MAGAZINE", v) {
-        return 0;
-    }
-    if octets::same_bytes(b"PROCESSOR", v) {
-        return 1;
-    }
-    2
-}
-
-// The place of an orientation; 2 where it is none.
-pub fn orientation_in(s: &[u8]) -> usize
-    ensures { (result ≡ code_in orientations s.now) × (result ≤ 2) }
-{
-    let v = texts::trimmed(s);
-    if octets::same_bytes(b"PORTRAIT", v) {
-        return 0;
-    }
-    if octets::same_bytes(b"LANDSCAPE", v) {
-        return 1;
-    }
-    2
-}
-
-// The place of a magnification; 4 where it is none.
-pub fn magnification_in(s: &[u8]) -> usize
-    ensures { (result ≡ code_in magnifications s.now) × (result ≤ 4) }
-{
-    let v = texts::trimmed(s);
-    if octets::same_bytes(b"NONE", v) {
-        return 0;
-    }
-    if octets::same_bytes(b"REPLICATE", v) {
-        return 1;
-    }
-    if octets::same_bytes(b"BILINEAR", v) {
-        return 2;
-    }
-    if octets::same_bytes(b"CUBIC", v) {
-        return 3;
-    }
-    4
-}
-
-// The place of a polarity; 2 where it is none.
-pub fn polarity_in(s: &[u8]) -> usize
-    ensures { (result ≡ code_in polarities s.now) × (result ≤ 2) }
-{
-    let v = texts::trimmed(s);
-    if octets::same_bytes(b"NORMAL", v) {
-        return 0;
-    }
-    if octets::same_bytes(b"REVERSE", v) {
-        return 1;
-    }
-    2
-}
-
-// The place of a photometric interpretation; 2 where it is none.
-pub fn photometric_in(s: &[u8]) -> usize
-    ensures { (result ≡ code_in photometrics s.now) × (result ≤ 2) }
-{
-    let v = texts::trimmed(s);
-    if octets::same_bytes(b"MONOCHROME1", v) {
-        return 0;
-    }
-    if octets::same_bytes(b"MONOCHROME2", v) {
-        return 1;
-    }
-    2
+    let value = texts::trimmed(s);
+    code_texts(code)
+        .iter()
+        .position(|text| octets::same_bytes(text, value))
 }
 
 // US: the number of the first two bytes; bytes that are not there count as 0.
+#[tactic(auto, using(crate::proofs::Octets::behind_end, crate::proofs::Octets::one_byte))]
 pub fn us_in(s: &[u8]) -> u16
     ensures { (result ≡ us_in s.now) × (result < 65536) }
 {
-    if s.len() == 0 {
-        return 0;
+    match s {
+        [] => 0,
+        [only] => u16::from(*only),
+        _ => octets::u16_at(s, 0) as u16,
     }
-    if s.len() == 1 {
-        return s[0] as u16;
-    }
-    octets::u16_at(s, 0) as u16
 }

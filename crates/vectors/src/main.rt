@@ -5,7 +5,7 @@
 
 ghost use Rattle.std.specs.Prelude.{◌≤◌, length, IfOk, IfSome};
 
-use elements::{Found, Items, Read};
+use elements::{Found, Items};
 use headers::{Inside, Part, Scope, Syntax};
 use std::env::{Env, FillError};
 use std::rt::Files;
@@ -73,10 +73,8 @@ fn print_byte(rt: &impl Print, b: u8) -> io::Result<()> {
 }
 
 fn print_bytes(rt: &impl Print, s: &[u8]) -> io::Result<()> {
-    let mut i = 0;
-    while i < s.len() {
-        print_byte(rt, s[i])?;
-        i += 1;
+    for b in s {
+        print_byte(rt, *b)?;
     }
     Ok(())
 }
@@ -85,14 +83,7 @@ fn print_bytes(rt: &impl Print, s: &[u8]) -> io::Result<()> {
 fn kept(s: &[u8], part: Inside) -> Inside
     ensures { (result.from ≤ result.stop) × (result.stop ≤ length s.now) }
 {
-    if s.len() < part.stop {
-        return Inside {
-            from: 0,
-            stop: 0,
-            loose: false,
-        };
-    }
-    if part.stop < part.from {
+    if s.len() < part.stop || part.stop < part.from {
         return Inside {
             from: 0,
             stop: 0,
@@ -177,11 +168,8 @@ fn print_item(
     over: usize,
     item: Inside,
 ) -> io::Result<()> {
-    let mut i = 0;
-    while i < 35 {
-        let tag = NAMED[i];
+    for tag in NAMED {
         print_inner(rt, s, syntax, over, item, tag)?;
-        i += 1;
     }
     Ok(())
 }
@@ -220,24 +208,19 @@ fn print_outer(rt: &impl Print, s: &[u8], syntax: Syntax, tag: usize) -> io::Res
 }
 
 fn print_data_set(rt: &impl Print, s: &[u8], syntax: Syntax) -> io::Result<()> {
-    let mut i = 0;
-    while i < 35 {
-        let tag = NAMED[i];
+    for tag in NAMED {
         print_outer(rt, s, syntax, tag)?;
-        i += 1;
     }
     Ok(())
 }
 
 fn report(rt: &impl Print, s: &[u8], syntax: Syntax) -> io::Result<()> {
-    let reading = elements::data_set(s, syntax);
-    let read = reading.read;
-    match read {
-        Read::Refused(stop) => {
+    match elements::data_set(s, syntax).read {
+        Err(stop) => {
             let number = stop.number;
             println!(rt; " refused {number}")
         }
-        Read::Past(p) => {
+        Ok(p) => {
             if p != s.len() {
                 print(rt, b" not to its end")?;
             }
@@ -255,7 +238,7 @@ fn syntax_named(first: u8) -> Syntax {
     Syntax::Implicit
 }
 
-// Reads until the slice is full or the input ends.
+// Reads until the slice is full or the input ends; as in traces, for the two programs share only what they try.
 fn read_full(file: &mut impl io::Read, into: &mut [u8]) -> io::Result<usize>
     ensures { IfOk result (λ n. n ≤ length into.new) }
 {

@@ -5,15 +5,17 @@ ghost use Rattle.std.specs.Prelude.{◌≡◌, length};
 ghost use Rattle.rules.specs.Commands.{uid_at};
 ghost use Rattle.rules.specs.Records.{sent_name};
 ghost use Rattle.rules.specs.Checks.{quietly, sent_or_none, failed_name, failed};
+ghost use Rattle.rules.specs.Failures.{status_of};
 ghost use Rattle.rules.specs.declared.Core.{Core};
+ghost use Rattle.rules.specs.declared.Verdict.{Verdict};
 ghost use Rattle.commands.specs.Within.{PartIn};
 ghost use Rattle.changes.specs.Changes.{changed, verdict_of};
 ghost use Rattle.verdicts.specs.Ready.{UidIn, UidsIn};
-ghost use Rattle.verdicts.specs.Decided.{Decides};
+ghost use Rattle.verdicts.specs.Decided.{Decides, Comes};
 
 use changes::{Change, Decision, Effect};
 use headers::Part;
-use rules::{Contents, Name, Note, Operation, Request};
+use rules::{Failure, Name, Note, Operation, Request};
 
 // The UID at a place of the command, as a name that was sent.
 pub fn name_at(c: &[u8], p: Part) -> Name
@@ -33,7 +35,7 @@ pub fn with_change(change: Change, name: Name) -> Decision
         change,
         instance: name,
         note: Note::NoNote,
-        contents: Contents::Nothing,
+        contents: None,
     }
 }
 
@@ -72,20 +74,30 @@ fn failed_name(c: &[u8], operation: Operation) -> Name
     }
 }
 
-// A failure with this note and this status: nothing changes.
-pub fn failed(c: &[u8], request: Request, note: Note, status: u16) -> Decision
+// A failure with this note: nothing changes.
+pub fn failed(c: &[u8], request: Request, note: Note, failure: Failure) -> Decision
     requires { UidsIn c.now request.operation }
-    ensures { (k : Core) → Decides k result (failed k c.now request note status) }
+    ensures { (k : Core) → Decides k result (failed k c.now request note (status_of failure)) }
 {
-    let operation = request.operation;
-    let name = failed_name(c, operation);
+    let name = failed_name(c, request.operation);
     let change = changes::change_by(Effect::Kept);
     Decision {
         done: false,
-        status: status,
+        status: u16::from(failure),
         change,
         instance: name,
         note,
-        contents: Contents::Nothing,
+        contents: None,
+    }
+}
+
+// What a request comes to by checks 6 to 11: a decision, or a failure without a note.
+pub fn decided(c: &[u8], request: Request, planned: Result<Decision, Failure>) -> Decision
+    requires { UidsIn c.now request.operation }
+    ensures { (k : Core) (v : Verdict) → Comes k c.now request planned v → Decides k result v }
+{
+    match planned {
+        Ok(decision) => decision,
+        Err(failure) => failed(c, request, Note::NoNote, failure),
     }
 }

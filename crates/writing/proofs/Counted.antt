@@ -5,10 +5,10 @@ use mathlib.Core.Path.{◌≡◌, refl, ap, ◌∙◌}
 use mathlib.Core.List.{List, ◌++◌}
 use native.Mathlib.Omega.{arith}
 use lib.ListN.{length}
+use Rattle.std.specs.Prelude.{Ok}
 use Rattle.octets.proofs.Laid.{Stands}
 use Rattle.headers.specs.declared.Syntax.{Syntax}
 use Rattle.tags.specs.Table.{SQ}
-use Rattle.elements.specs.declared.Read.TheVariants.{Past}
 use Rattle.elements.specs.Reader.{item_end, sequence_end, element_at}
 use Rattle.elements.specs.Passed.{list_passed, items_passed, element_passed, passed_in, headers_passed}
 use Rattle.elements.proofs.Passed.{passed_value, passed_nest, passed_item_nest, passed_items_done, passed_items_more, passed_list_done, passed_list_more}
@@ -23,7 +23,7 @@ use Rattle.writing.proofs.ListBack.{written_even, items_even, between, mark, not
 -- an element and what it holds, and behind it the list with a higher tag
 on : (s : List ℕ) (syntax : Syntax) (room from stop at floor tag vr : ℕ) (held more : List ℕ) → HeaderFits syntax floor tag vr (length held)
     → Stands s at (headed syntax tag vr held ++ more) → at + header_size syntax vr + length held ≤ stop
-    → element_at s syntax room stop at floor ≡ Past (at + header_size syntax vr + length held)
+    → element_at s syntax room stop at floor ≡ Ok (at + header_size syntax vr + length held)
     → {n rest : ℕ} → element_passed s syntax room stop at floor ≡ n
     → list_passed (element_at s syntax room) (element_passed s syntax room) s (between from stop) (mark (at + header_size syntax vr + length held) (tag + 1)) ≡ rest
     → list_passed (element_at s syntax room) (element_passed s syntax room) s (between from stop) (mark at floor) ≡ n + rest

@@ -7,11 +7,11 @@ use mathlib.Core.List.{List, [], ◌∷◌}
 use native.Mathlib.Omega.{arith}
 use borrow.Author.Rules.{rules}
 use lib.ListN.{length}
+use Rattle.std.specs.Prelude.{Ok}
 use Rattle.octets.specs.Octets.{octets}
 use Rattle.tags.specs.Table.{IS, SQ, UI, UL, US, form_of}
 use Rattle.headers.specs.declared.Syntax.{Syntax}
 use Rattle.headers.specs.declared.Syntax.TheVariants.{Implicit, Explicit}
-use Rattle.elements.specs.declared.Read.TheVariants.{Past}
 use Rattle.elements.specs.Reader.{data_set}
 use Rattle.writing.specs.Tree.{Elements, no_elements, value, sequence, Items, no_items, item}
 use Rattle.writing.specs.Bytes.{padded, tag_octets, vr_octets, plain, header, element, written, written_items}
@@ -62,7 +62,7 @@ echoed_fits : Fit Implicit 4 0 echoed
 unfolding echoed padded octets limit the_forms
 echoed_fits = search rules
 
-echoed_read : data_set (written Implicit echoed) Implicit ≡ Past 78
+echoed_read : data_set (written Implicit echoed) Implicit ≡ Ok 78
 unfolding echoed the_bytes
 echoed_read = data_set_back Implicit echoed echoed_fits
 
@@ -106,7 +106,7 @@ module _ (syntax : Syntax) (class : List ℕ) (h : length class ≤ 64) where
   )
 
   -- the reader takes it whole, in both syntaxes, for any number of boxes up to 36
-  referenced_read : (uids : List (List ℕ)) → Short uids → length uids ≤ 36 → data_set (written syntax (referenced class uids)) syntax ≡ Past (length (written syntax (referenced class uids)))
+  referenced_read : (uids : List (List ℕ)) → Short uids → length uids ≤ 36 → data_set (written syntax (referenced class uids)) syntax ≡ Ok (length (written syntax (referenced class uids)))
   unfolding the_forms
   referenced_read uids k n = data_set_back syntax (referenced class uids) (
     (omega arith, refl, below_limit syntax SQ (length (written_items syntax (boxes class uids))) (omega (arith, boxes_length uids k))),

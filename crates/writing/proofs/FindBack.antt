@@ -8,6 +8,7 @@ use native.Mathlib.Omega.{arith}
 use lib.Dec.{eqb}
 use lib.ListN.{length}
 use borrow.Author.Tests.{eqb-true, eqb-false}
+use Rattle.std.specs.Prelude.{Ok}
 use Rattle.choice.specs.Pick.{pick}
 use Rattle.octets.specs.Octets.{part}
 use Rattle.octets.proofs.Laid.{Stands}
@@ -17,7 +18,6 @@ use Rattle.headers.specs.declared.Inside.{Inside}
 use Rattle.headers.specs.declared.Head.{Head}
 use Rattle.tags.specs.Table.{SQ}
 use Rattle.headers.specs.Header.{tag_at, head_at}
-use Rattle.elements.specs.declared.Read.TheVariants.{Past}
 use Rattle.elements.specs.declared.Found.{Found}
 use Rattle.elements.specs.declared.Found.TheVariants.{Value, Sequence}
 use Rattle.elements.specs.Reader.{item_end, element_at, scope_of}
@@ -35,7 +35,7 @@ use Rattle.writing.proofs.ListBack.{between, mark, items_even, not_yet, ended, h
 step : (s : List ℕ) (syntax : Syntax) (room from stop at floor t vr tag : ℕ) (held more : List ℕ) (d : Head) → HeaderFits syntax floor t vr (length held)
     → Stands s at (headed syntax t vr held ++ more) → at + header_size syntax vr + length held ≤ stop
     → head_at s syntax stop at floor ≡ d
-    → element_at s syntax room stop at floor ≡ Past (at + header_size syntax vr + length held)
+    → element_at s syntax room stop at floor ≡ Ok (at + header_size syntax vr + length held)
     → among s syntax stop tag (elements_from s (scope_of syntax room (between from stop)) (mark at floor))
     ≡ pick (eqb t tag) (found d) (among s syntax stop tag (elements_from s (scope_of syntax room (between from stop)) (mark (at + header_size syntax vr + length held) (t + 1))))
 step s syntax room from stop at floor t vr tag held more d f e r h p = by (eqb t tag) refl

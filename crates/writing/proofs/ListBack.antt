@@ -9,16 +9,15 @@ use native.Mathlib.Omega.{arith}
 use lib.ListN.{length, length-append}
 use lib.Seq.{take-length}
 use lib.Dec.{eqb}
+use Rattle.std.specs.Prelude.{Some, None, Ok}
 use Rattle.choice.specs.Pick.{both}
 use Rattle.choice.proofs.Picks.{pick_cases}
 use borrow.Author.Tests.{lt-ltb, le-ltb}
 use Rattle.octets.proofs.Laid.{Stands, stands_first, stands_second}
 use Rattle.headers.specs.declared.Syntax.{Syntax}
 use Rattle.headers.specs.declared.Inside.{Inside}
-use Rattle.headers.specs.declared.Close.TheVariants.{Here, Not}
 use Rattle.tags.specs.Table.{SQ, form_of, named_vr}
 use Rattle.headers.specs.Header.{is_explicit, close_at}
-use Rattle.elements.specs.declared.Read.TheVariants.{Past}
 use Rattle.elements.specs.Reader.{item_end, sequence_end, Mark, list_from, items_from, element_at, list_at, item_at, data_set, scope_of}
 use Rattle.elements.proofs.Laws.{element_value, element_nest, item_nest, items_done, items_more, list_done, list_more}
 use Rattle.writing.specs.Tree.{Elements, no_elements, value, sequence, Items, no_items, item}
@@ -67,11 +66,11 @@ mark at floor = record { at = at; floor = floor }
 
 -- Where a list of defined length ends.
 
-pub not_yet : (s : List ℕ) (mark from stop at : ℕ) → at < stop → close_at s mark (between from stop) at ≡ Not
+pub not_yet : (s : List ℕ) (mark from stop at : ℕ) → at < stop → close_at s mark (between from stop) at ≡ None
 unfolding close_at
 not_yet s mark from stop at h = rw (lt-ltb at stop h)
 
-pub ended : (s : List ℕ) (mark from at : ℕ) → close_at s mark (between from at) at ≡ Here at
+pub ended : (s : List ℕ) (mark from at : ℕ) → close_at s mark (between from at) at ≡ Some at
 unfolding close_at
 ended s mark from at = rw (le-ltb at at (omega arith))
 
@@ -95,15 +94,15 @@ module _ (s : List ℕ) (syntax : Syntax) (room stop at floor tag : ℕ) where
   -- a value is passed over
   pub value_past : (vr : ℕ) (held more : List ℕ) → HeaderFits syntax floor tag vr (length held) → eqb vr SQ ≡ false → length held % 2 ≡ 0
       → Stands s at (headed syntax tag vr held ++ more) → at + header_size syntax vr + length held ≤ stop
-      → element_at s syntax room stop at floor ≡ Past (at + header_size syntax vr + length held)
+      → element_at s syntax room stop at floor ≡ Ok (at + header_size syntax vr + length held)
   value_past vr held more f q v e r =
       element_value s syntax room stop at floor (value_head s syntax stop at floor tag vr (length held) f v r (header_stands s syntax at tag vr held more e) q)
 
   -- a sequence is passed over, where its items are
   pub sequence_past : (held more : List ℕ) → HeaderFits syntax floor tag SQ (length held) → named_vr tag ≡ SQ → 0 < room → length held % 2 ≡ 0
       → Stands s at (headed syntax tag SQ held ++ more) → at + header_size syntax SQ + length held ≤ stop
-      → items_from (element_at s syntax (room - 1)) s (room - 1) (span (at + header_size syntax SQ) (length held)) (at + header_size syntax SQ) ≡ Past (at + header_size syntax SQ + length held)
-      → element_at s syntax room stop at floor ≡ Past (at + header_size syntax SQ + length held)
+      → items_from (element_at s syntax (room - 1)) s (room - 1) (span (at + header_size syntax SQ) (length held)) (at + header_size syntax SQ) ≡ Ok (at + header_size syntax SQ + length held)
+      → element_at s syntax room stop at floor ≡ Ok (at + header_size syntax SQ + length held)
   sequence_past held more f q p v e r i =
       element_nest s syntax room stop at floor (λ z. omega arith) (sequence_head s syntax stop at floor tag (length held) f v r (header_stands s syntax at tag SQ held more e) q) ∙ i
 
@@ -112,7 +111,7 @@ module _ (s : List ℕ) (syntax : Syntax) (room stop at floor tag : ℕ) where
 -- an element was passed over: the list goes on behind it, with a higher tag
 on : (s : List ℕ) (syntax : Syntax) (room from stop at floor tag vr : ℕ) (held more : List ℕ) → HeaderFits syntax floor tag vr (length held)
     → Stands s at (headed syntax tag vr held ++ more) → at + header_size syntax vr + length held ≤ stop
-    → element_at s syntax room stop at floor ≡ Past (at + header_size syntax vr + length held)
+    → element_at s syntax room stop at floor ≡ Ok (at + header_size syntax vr + length held)
     → list_from (element_at s syntax room) s (between from stop) (mark at floor)
     ≡ list_from (element_at s syntax room) s (between from stop) (mark (at + header_size syntax vr + length held) (tag + 1))
 on s syntax room from stop at floor tag vr held more f e r p =
@@ -139,8 +138,8 @@ stop_after_item stop at list more e = e ∙ rw (length-append (item_header (leng
 -- an item is passed over, where its list is
 pub item_past_back : (s : List ℕ) (syntax : Syntax) (room stop at : ℕ) (list more : List ℕ) → length list < 0xFFFF_FFFF → length list % 2 ≡ 0
     → Stands s at ((item_header (length list) ++ list) ++ more) → at + 8 + length list ≤ stop
-    → list_from (element_at s syntax room) s (span (at + 8) (length list)) (mark (at + 8) 0) ≡ Past (at + 8 + length list)
-    → item_at s syntax room stop at ≡ Past (at + 8 + length list)
+    → list_from (element_at s syntax room) s (span (at + 8) (length list)) (mark (at + 8) 0) ≡ Ok (at + 8 + length list)
+    → item_at s syntax room stop at ≡ Ok (at + 8 + length list)
 unfolding list_at
 item_past_back s syntax room stop at list more d v e r p =
     item_nest s syntax room stop at (item_head_back s stop at (length list) d v r (item_header_stands s at list more e)) ∙ p
@@ -150,7 +149,7 @@ mutual
 
   -- the rest of a list, from a place on
   pub list_back : (elements : Elements) (s : List ℕ) (syntax : Syntax) (room from stop at floor : ℕ) → Fit syntax room floor elements → stop ≡ at + length (written syntax elements) → Stands s at (written syntax elements)
-      → list_from (element_at s syntax room) s (between from stop) (mark at floor) ≡ Past stop
+      → list_from (element_at s syntax room) s (between from stop) (mark at floor) ≡ Ok stop
   list_back no_elements s syntax room from stop at floor f n e =
       let z : stop ≡ at = omega arith in
       rw z (list_done s syntax room (between from at) at (omega arith) floor (ended s item_end from at))
@@ -172,7 +171,7 @@ mutual
 
   -- the rest of a sequence's items
   pub items_back : (items : Items) (s : List ℕ) (syntax : Syntax) (room from stop at : ℕ) → FitItems syntax room items → stop ≡ at + length (written_items syntax items) → Stands s at (written_items syntax items)
-      → items_from (element_at s syntax room) s room (between from stop) at ≡ Past stop
+      → items_from (element_at s syntax room) s room (between from stop) at ≡ Ok stop
   items_back no_items s syntax room from stop at f n e =
       let z : stop ≡ at = omega arith in
       rw z (items_done s syntax room (between from at) at (omega arith) (ended s sequence_end from at))
@@ -187,7 +186,7 @@ mutual
 
 -- What was written at a place of a larger whole, the reader takes there, to its end.
 pub reads_back : (s : List ℕ) (syntax : Syntax) (room at : ℕ) (elements : Elements) → Fit syntax room 0 elements → Stands s at (written syntax elements)
-    → list_at s (scope_of syntax room (span at (length (written syntax elements)))) ≡ Past (at + length (written syntax elements))
+    → list_at s (scope_of syntax room (span at (length (written syntax elements)))) ≡ Ok (at + length (written syntax elements))
 unfolding list_at
 reads_back s syntax room at elements f e = list_back elements s syntax room at (at + length (written syntax elements)) at 0 f refl e
 
@@ -195,7 +194,7 @@ pub stands_whole : (s : List ℕ) → Stands s 0 s
 stands_whole s = let z : 0 + length s - 0 ≡ length s = omega arith in rw z (take-length s)
 
 -- What was written is a data set, or a command set, that the reader takes whole.
-pub data_set_back : (syntax : Syntax) (elements : Elements) → Fit syntax 4 0 elements → data_set (written syntax elements) syntax ≡ Past (length (written syntax elements))
+pub data_set_back : (syntax : Syntax) (elements : Elements) → Fit syntax 4 0 elements → data_set (written syntax elements) syntax ≡ Ok (length (written syntax elements))
 unfolding data_set list_at
 data_set_back syntax elements f =
     list_back elements (written syntax elements) syntax 4 0 (length (written syntax elements)) 0 0 f (omega arith) (stands_whole (written syntax elements))

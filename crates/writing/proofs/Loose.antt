@@ -7,6 +7,7 @@ use mathlib.Core.List.{List, ◌++◌}
 use native.Mathlib.Omega.{arith}
 use lib.ListN.{length, length-append}
 use borrow.Author.Tests.{le-ltb}
+use Rattle.std.specs.Prelude.{Some, None, Ok}
 use Rattle.choice.proofs.Picks.{first_kept}
 use Rattle.octets.specs.Octets.{octets, number_at}
 use Rattle.octets.proofs.Laid.{Stands, stands_first, stands_second}
@@ -14,10 +15,8 @@ use Rattle.octets.proofs.Numbers.{number_back}
 use Rattle.headers.specs.declared.Syntax.TheVariants.{Implicit}
 use Rattle.headers.specs.declared.Inside.{Inside}
 use Rattle.headers.specs.declared.Head.TheVariants.{Fault, Nest}
-use Rattle.headers.specs.declared.Close.TheVariants.{Here, Not}
 use Rattle.tags.specs.Table.{named_vr, implicit_vr}
 use Rattle.headers.specs.Header.{tag_at, size_at, vr_at, length_at, vr_wrong, element_rules, length_head, head_at, item_head_at, close_at}
-use Rattle.elements.specs.declared.Read.TheVariants.{Past}
 use Rattle.elements.specs.Reader.{item_end, sequence_end, items_from, element_at, list_at, item_at, data_set}
 use Rattle.elements.specs.Passed.{items_passed, element_passed, item_passed_at, passed_in, headers_passed}
 use Rattle.elements.proofs.Laws.{element_nest, item_nest, items_done, items_more, list_done, list_more}
@@ -48,12 +47,12 @@ abbrev loose : ℕ → Inside
 loose stop = record { from = 8; stop = stop; loose = true }
 
 module _ (s : List ℕ) (stop at : ℕ) (h : at + 8 ≤ stop) where
-  closed : Stands s at (plain sequence_end 0) → close_at s sequence_end (loose stop) at ≡ Here (at + 8)
+  closed : Stands s at (plain sequence_end 0) → close_at s sequence_end (loose stop) at ≡ Some (at + 8)
   unfolding close_at
   closed e =
       rw (le-ltb (stop - at) 8 (omega arith), tag_back s at sequence_end (omega arith) (tag_stands s at sequence_end 0 e), size_back s at sequence_end 0 e (omega arith))
 
-  unclosed : Stands s at (item_header 0) → close_at s sequence_end (loose stop) at ≡ Not
+  unclosed : Stands s at (item_header 0) → close_at s sequence_end (loose stop) at ≡ None
   unfolding close_at
   unclosed e = rw (le-ltb (stop - at) 8 (omega arith), tag_back s at 0xFFFE_E000 (omega arith) (tag_stands s at 0xFFFE_E000 0 e))
 
@@ -62,7 +61,7 @@ module _ (s : List ℕ) (stop at : ℕ) (h : at + 8 ≤ stop) where
     item_head : item_head_at s stop at ≡ Nest (span (at + 8) 0)
     item_head = item_head_back s stop at 0 (omega arith) refl (omega arith) e
 
-    item_empty : item_at s Implicit room stop at ≡ Past (at + 8)
+    item_empty : item_at s Implicit room stop at ≡ Ok (at + 8)
     unfolding list_at
     item_empty =
         let z : at + 8 + 0 ≡ at + 8 = omega arith in
@@ -77,11 +76,11 @@ module _ (s : List ℕ) (stop at : ℕ) (h : at + 8 ≤ stop) where
 
 module _ (s : List ℕ) (room stop : ℕ) where
   items_read : (n at : ℕ) → stop ≡ at + 8 * suc n → Stands s at (items_then_end n)
-      → (items_from (element_at s Implicit room) s room (loose stop) at ≡ Past stop) × (items_passed (element_at s Implicit room) (element_passed s Implicit room) s room (loose stop) at ≡ suc n)
+      → (items_from (element_at s Implicit room) s room (loose stop) at ≡ Ok stop) × (items_passed (element_at s Implicit room) (element_passed s Implicit room) s room (loose stop) at ≡ suc n)
   unfolding items_then_end
   items_read zero at l e =
       let k = closed s stop at (omega arith) e in
-      (items_done s Implicit room (loose stop) at (omega arith) k ∙ ap Past (omega arith), passed_items_done s Implicit room (loose stop) at (omega arith) k)
+      (items_done s Implicit room (loose stop) at (omega arith) k ∙ ap Ok (omega arith), passed_items_done s Implicit room (loose stop) at (omega arith) k)
   items_read (suc n) at l e =
       let item = stands_first s at (item_header 0) (items_then_end n) e in
       let k = unclosed s stop at (omega arith) item in
@@ -115,7 +114,7 @@ sequence_nests s stop h e =
     ∙ rw (tag, size_back s 0 0x2010_0510 0xFFFF_FFFF e (omega arith))
 
 -- For each number of headers from two on, a data set of eight bytes for each.
-pub ceiling_reached_loose : (n : ℕ) → (length (loose_sequence n) ≡ 8 * (n + 2)) × (data_set (loose_sequence n) Implicit ≡ Past (8 * (n + 2))) × (headers_passed (loose_sequence n) Implicit ≡ n + 2)
+pub ceiling_reached_loose : (n : ℕ) → (length (loose_sequence n) ≡ 8 * (n + 2)) × (data_set (loose_sequence n) Implicit ≡ Ok (8 * (n + 2))) × (headers_passed (loose_sequence n) Implicit ≡ n + 2)
 unfolding data_set list_at headers_passed passed_in
 ceiling_reached_loose n =
     let s = loose_sequence n in

@@ -6,10 +6,10 @@ use mathlib.Core.Path.{◌≡◌, refl, ap, ◌∙◌}
 use mathlib.Core.List.{[]}
 use native.Mathlib.Omega.{arith}
 use lib.ListN.{length, length-append}
+use Rattle.std.specs.Prelude.{Ok}
 use Rattle.headers.specs.declared.Syntax.{Syntax}
 use Rattle.headers.specs.declared.Syntax.TheVariants.{Implicit, Explicit}
 use Rattle.tags.specs.Table.{CS, form_of}
-use Rattle.elements.specs.declared.Read.TheVariants.{Past}
 use Rattle.elements.specs.Reader.{data_set}
 use Rattle.elements.specs.Passed.{headers_passed}
 use Rattle.writing.specs.Bytes.{padded, header_size, element, written}
@@ -51,8 +51,8 @@ empties_fit syntax (suc n) floor tag h l r =
     ((h, allowed_above tag CS (omega arith) (omega arith) refl, below_limit syntax CS (length (padded CS [])) (omega (arith, padded_length CS []))), refl, empties_fit syntax n (tag + 1) (tag + 1) (omega arith) (omega arith) (omega arith))
 
 pub ceiling_reached : (syntax : Syntax) (n : ℕ) → n ≤ most_empties
-    → (length (written syntax (empties first_empty n)) ≡ 8 * n) × (data_set (written syntax (empties first_empty n)) syntax ≡ Past (8 * n)) × (headers_passed (written syntax (empties first_empty n)) syntax ≡ n)
+    → (length (written syntax (empties first_empty n)) ≡ 8 * n) × (data_set (written syntax (empties first_empty n)) syntax ≡ Ok (8 * n)) × (headers_passed (written syntax (empties first_empty n)) syntax ≡ n)
 ceiling_reached syntax n h =
     let l = empties_length syntax n first_empty in
     let f = empties_fit syntax n 0 first_empty (omega arith) (omega arith) (omega arith) in
-    (l, data_set_back syntax (empties first_empty n) f ∙ ap Past l, passed_back syntax (empties first_empty n) f ∙ empties_counted n first_empty)
+    (l, data_set_back syntax (empties first_empty n) f ∙ ap Ok l, passed_back syntax (empties first_empty n) f ∙ empties_counted n first_empty)

@@ -4,12 +4,12 @@ use Prim.Native.Nat.{ℕ, ◌+◌, ◌-◌}
 use mathlib.Core.Path.{◌≡◌}
 use mathlib.Core.List.{List}
 use lib.ListN.{length}
+use Rattle.std.specs.Prelude.{Ok}
 use Rattle.octets.specs.Octets.{part}
 use Rattle.octets.proofs.Laid.{Stands}
 use Rattle.headers.specs.declared.Syntax.{Syntax}
 use Rattle.headers.specs.declared.Part.{Part}
 use Rattle.headers.specs.declared.Inside.{Inside}
-use Rattle.elements.specs.declared.Read.TheVariants.{Past}
 use Rattle.elements.specs.declared.Found.TheVariants.{Value, Sequence}
 use Rattle.elements.specs.Reader.{list_at, scope_of}
 use Rattle.elements.specs.Find.{find_at, items_at}
@@ -23,7 +23,7 @@ use Rattle.writing.proofs.ItemsBack.{found_items_told}
 
 pub record ReadBack (s : List ℕ) (syntax : Syntax) (room at : ℕ) (elements : Elements) : Type 0 where
   -- the reader takes the list to its end
-  pub taken : list_at s (scope_of syntax room (span at (length (written syntax elements)))) ≡ Past (at + length (written syntax elements))
+  pub taken : list_at s (scope_of syntax room (span at (length (written syntax elements)))) ≡ Ok (at + length (written syntax elements))
   -- under each tag it finds what was written there, and where it was written
   pub found : (tag : ℕ) → find_at s (scope_of syntax room (span at (length (written syntax elements)))) tag ≡ place_in syntax at tag elements
   -- a value that is found has the bytes that were meant

@@ -1,30 +1,31 @@
 use mathlib.Core.Path.{refl, ap, ◌∙◌}
 use mathlib.Core.List.{[], ◌∷◌}
+use Rattle.std.proofs.lemmas.Result.{err_from_is_err_and}
 use Rattle.choice.specs.Pick.{pick}
 use Rattle.rules.specs.Effects.{film_at, none_filled}
-use Rattle.rules.specs.Checks.{film_print_rules, printed_with, action_plan}
+use Rattle.rules.specs.Checks.{action_plan}
+use Rattle.rules.specs.declared.Instance.TheVariants.{TheFilm}
 use Rattle.changes.specs.declared.Effect.TheVariants.{FilmPrinted}
 use Rattle.changes.specs.Changes.{affected, EffectFits}
-use Rattle.verdicts.proofs.Plans.{broken_decides, kept_decides}
+use Rattle.verdicts.proofs.Plans.{own_fails, own_stands}
 use Rattle.acting.proofs.Laws.{queued_so, effect_fits, film_room, one_empty}
-use borrow.Author.Rules.{rules}
 use Rattle.acting.proofs.film_printed.Goals as goal
 
-pub returns-then-broken-ne0 : goal.returns-then-broken-ne0
+pub returns-in_err-film_print_broken : goal.returns-in_err-film_print_broken
 unfolding action_plan
-returns-then-broken-ne0 c =
+returns-in_err-film_print_broken c =
     let a = c.args in
-    let failed = c.failed.ensures a.k in
-    (broken_decides a.k a.c.now a.request (film_print_rules a.k a.i) (record { rules = []; verdict = printed_with a.k 0xB603 (film_at a.k a.i ∷ []) a.name }) refl _ c.film_print_broken-broken.ensures _ c.if-broken-ne0.true failed.0, failed.1)
+    let p = err_from_is_err_and c.from_residual.result c.from_residual.ensures.1 in
+    rw (p.1, p.2) (own_fails a.k (action_plan a.k (TheFilm a.i) a.name) refl _ c.in_err-film_print_broken.ensures)
 
 pub returns : goal.returns
 unfolding action_plan affected EffectFits
 returns c =
     let a = c.args in
-    let warned = c.warned-status in (
-      kept_decides a.k a.c.now a.request (film_print_rules a.k a.i) (record { rules = []; verdict = printed_with a.k 0xB603 (film_at a.k a.i ∷ []) a.name }) refl _ c.film_print_broken-broken.ensures _ c.if-broken-ne0.false
-          (queued_so a.k (FilmPrinted a.i) a.name 0xB603 (film_at a.k a.i ∷ []) warned.result 1 c.films_queued.result c.films_queued.ensures refl
-          (warned.ensures ∙ ap (λ empty. pick empty 0xB603 0) (c.none_filled.ensures ∙ ap none_filled c.film_at-film.ensures ∙ one_empty (film_at a.k a.i))) refl),
-      effect_fits a.k (FilmPrinted a.i) a.name warned.result 1 c.films_queued.result c.films_queued.ensures
-          (c.requires.2, film_room a.k a.i _ c.film_print_broken-broken.ensures c.if-broken-ne0.false),
+    let warned = c.warned-status in
+    let kept = c.in_ok-film_print_broken.ensures in
+    own_stands a.k (action_plan a.k (TheFilm a.i) a.name) refl c.films_queued.result kept (
+      queued_so a.k (FilmPrinted a.i) a.name 0xB603 (film_at a.k a.i ∷ []) warned.result 1 c.films_queued.result c.films_queued.ensures refl
+          (warned.ensures ∙ ap (λ empty. pick empty 0xB603 0) (c.none_filled.ensures ∙ ap none_filled c.film_at-film.ensures ∙ one_empty (film_at a.k a.i))) refl,
+      effect_fits a.k (FilmPrinted a.i) a.name warned.result 1 c.films_queued.result c.films_queued.ensures (c.requires.1, film_room a.k a.i _ kept refl),
     )

@@ -1,24 +1,27 @@
+use mathlib.Core.Path.{refl}
+use borrow.Author.Tests.{eqb-false}
 use Rattle.records.specs.Places.{core_in}
+use Rattle.verdicts.proofs.Plans.{status_some}
 use Rattle.answering.proofs.General.{uids_in_parts, general_broken, data_read, data_stopped}
 use Rattle.answering.proofs.decided.Goals as goal
 
-pub general_broken-broken-requires : goal.general_broken-broken-requires
-general_broken-broken-requires c =
+pub general_broken-requires : goal.general_broken-requires
+general_broken-requires c =
     uids_in_parts c.args.c.now c.args.request.operation c.requires.1
 
-pub returns-then-broken-ne0 : goal.returns-then-broken-ne0
-returns-then-broken-ne0 c =
+pub returns-in-Err : goal.returns-in-Err
+returns-in-Err c =
     let k = core_in c.args.b.now in
     let told = c.failed.ensures k in
-    (general_broken k c.args.c.now _ _ c.args.request _ _ c.general_broken-broken.ensures c.if-broken-ne0.true told.0, told.1)
+    (general_broken k c.args.c.now _ _ c.args.request _ _ c.in-Err.ensures (eqb-false _ 0 (status_some c.in-Err.failure)) told.0, told.1)
 
-pub returns-in-Past : goal.returns-in-Past
-returns-in-Past c =
+pub returns-in-Ok-reading : goal.returns-in-Ok-reading
+returns-in-Ok-reading c =
     let k = core_in c.args.b.now in
-    (data_read k c.args.c.now _ _ c.args.request _ _ c.general_broken-broken.ensures c.if-broken-ne0.false _ c.syntax_in.ensures _ c.reading.ensures c.in-Past.is c.planned.ensures.0, c.planned.ensures.1)
+    (data_read k c.args.c.now _ _ c.args.request _ _ c.in-Ok.ensures refl _ c.syntax_in.ensures _ c.in-Ok-reading.ensures refl c.planned.ensures.0, c.planned.ensures.1)
 
-pub returns-in-Refused : goal.returns-in-Refused
-returns-in-Refused c =
+pub returns-in-Err-reading : goal.returns-in-Err-reading
+returns-in-Err-reading c =
     let k = core_in c.args.b.now in
-    let failed = c.failed-in-Refused.ensures k in
-    (data_stopped k c.args.c.now _ _ c.args.request _ _ c.general_broken-broken.ensures c.if-broken-ne0.false _ c.syntax_in.ensures _ c.reading.ensures c.in-Refused.is failed.0, failed.1)
+    let failed = c.failed-in-Err-reading.ensures k in
+    (data_stopped k c.args.c.now _ _ c.args.request _ _ c.in-Ok.ensures refl _ c.syntax_in.ensures _ c.in-Err-reading.ensures refl failed.0, failed.1)

@@ -23,11 +23,11 @@ respond-requires c =
     let text = c.command_held-c.result.now in
     let k = core_in a.records.now in
     let fit = contents_fit k text (record { came = a.came; bytes = a.d.now }) a.request c.requires.2.0 (uids_known text a.request.operation uids) in
-    (c.requires.0.1, c.requires.0.2, c.requires.0.3, c.requires.0.0, c.requires.2.0, uids, subst (λ (x : Verdict). ContentsFit x.contents) (sym c.decided-v.ensures.0) fit)
+    (c.requires.0.1, c.requires.0.2, c.requires.0.3, c.requires.2.0, uids, subst (λ (x : Verdict). ContentsFit x.contents) (sym c.decided-v.ensures.0) fit)
 
 pub put_settled-requires : goal.put_settled-requires
 put_settled-requires c =
-    (c.requires.0.0, (c.requires.2.1, c.requires.2.2), c.decided-v.ensures.1)
+    ((c.requires.2.1, c.requires.2.2), c.decided-v.ensures.1)
 
 pub returns : goal.returns
 returns c =

@@ -11,7 +11,7 @@ use Rattle.attributes.proofs.film_create_broken.Goals as goal
 
 pub format_severity-requires : goal.format_severity-requires
 format_severity-requires c =
-    found_placed c.args.d.now c.args.syntax 0x2010_0010 c.requires.1.format
+    found_placed c.args.d.now c.args.syntax 0x2010_0010 c.requires.format
 
 pub returns : goal.returns
 unfolding film_create_standings
@@ -20,7 +20,7 @@ returns c =
     let k = core_in a.b.now in
     let l = listing_of a.d.now a.syntax in
     broken_told (film_create_standings k l)
-    (worst_next _ _ (mandatory_listed blank (λ v. not (eqb (length (counts_in v)) 0)) l 0x2010_0010 c.requires.1.format c.format_severity.ensures)
-    (worst_both _ _ (c.reference_severity.ensures ∙ ap (λ f. worst (reference k l f)) c.requires.1.reference) c.optional_film-worst.ensures c.worse-worst.ensures)
+    (worst_next _ _ (mandatory_listed blank (λ v. not (eqb (length (counts_in v)) 0)) l 0x2010_0010 c.requires.format c.format_severity.ensures)
+    (worst_both _ _ (c.reference_severity.ensures ∙ ap (λ f. worst (reference k l f)) c.requires.reference) c.optional_film-worst.ensures c.worse-worst.ensures)
     c.worse-worst-2.ensures)
     c.status_of.ensures

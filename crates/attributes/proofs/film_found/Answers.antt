@@ -9,7 +9,7 @@ use Rattle.attributes.proofs.film_found.Goals as goal
 
 pub gathered-requires : goal.gathered-requires
 unfolding ascending
-gathered-requires c = (c.data_scope.ensures.1, c.data_scope.ensures.2, omega arith, refl)
+gathered-requires c = (omega arith, (omega arith, (c.data_scope.ensures.1, c.data_scope.ensures.2, refl)))
 
 pub returns : goal.returns
 returns c =

@@ -17,17 +17,17 @@ use Rattle.attributes.proofs.item_severity.Goals as goal
 pub gathered-found-requires : goal.gathered-found-requires
 unfolding ascending
 gathered-found-requires c =
-    (c.requires.1, c.requires.2, omega arith, refl)
+    (omega arith, (omega arith, (c.requires.0, c.requires.1, refl)))
 
 pub instance_severity-instance-requires : goal.instance_severity-instance-requires
 instance_severity-instance-requires c =
     let a = c.args in
-    (c.requires.0, found_within a.d.now (scope_of a.syntax 3 a.inside) 0x0008_1155 c.requires.1 c.requires.2 (c.gathered-found.ensures 1 (omega arith)))
+    found_within a.d.now (scope_of a.syntax 3 a.inside) 0x0008_1155 c.requires.0 c.requires.1 (c.gathered-found.ensures 1 (omega arith))
 
 pub class_severity-requires : goal.class_severity-requires
 class_severity-requires c =
     let a = c.args in
-    found_within a.d.now (scope_of a.syntax 3 a.inside) 0x0008_1150 c.requires.1 c.requires.2 (c.gathered-found.ensures 0 (omega arith))
+    found_within a.d.now (scope_of a.syntax 3 a.inside) 0x0008_1150 c.requires.0 c.requires.1 (c.gathered-found.ensures 0 (omega arith))
 
 pub returns : goal.returns
 returns c =

@@ -14,8 +14,8 @@ use Rattle.attributes.proofs.reference_severity.Goals as goal
 pub sequence_severity-requires : goal.sequence_severity-requires
 sequence_severity-requires c =
     let a = c.args in
-    let g = subst (FoundIn (0 + 8) (length a.d.now)) (sym c.requires.1 ∙ c.in-Sequence.is) (find_within a.d.now (data_scope a.d.now a.syntax) 0x2010_0500 (omega arith)) in
-    (c.requires.0, g.1.0, g.1.1)
+    let g = subst (FoundIn (0 + 8) (length a.d.now)) (sym c.requires ∙ c.in-Sequence.is) (find_within a.d.now (data_scope a.d.now a.syntax) 0x2010_0500 (omega arith)) in
+    (g.1.0, g.1.1)
 
 pub returns-in-Missing : goal.returns-in-Missing
 returns-in-Missing c =

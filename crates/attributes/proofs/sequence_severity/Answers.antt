@@ -13,8 +13,8 @@ use Rattle.attributes.proofs.sequence_severity.Goals as goal
 pub item_severity-requires : goal.item_severity-requires
 item_severity-requires c =
     let a = c.args in
-    let g = subst (ItemsIn (a.inside.from + 8) a.inside.stop) (sym c.items_in.ensures ∙ c.in-One.is) (items_within a.d.now (scope_of a.syntax 3 a.inside) c.requires.1) in
-    (c.requires.0, g.1.0, omega (arith, g.1.1, c.requires.2))
+    let g = subst (ItemsIn (a.inside.from + 8) a.inside.stop) (sym c.items_in.ensures ∙ c.in-One.is) (items_within a.d.now (scope_of a.syntax 3 a.inside) c.requires.0) in
+    (g.1.0, omega (arith, g.1.1, c.requires.1))
 
 pub returns-in-Empty : goal.returns-in-Empty
 returns-in-Empty c =

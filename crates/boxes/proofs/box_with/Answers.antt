@@ -16,16 +16,16 @@ overflow_cast-position c =
     let h : c.sent_at-position.result.number < 256 = rw (c.sent_at-position.ensures.2, c.requires.1.position) c.requires.0 in
     omega (arith, h)
 
-pub polarity_or-polarity-requires : goal.polarity_or-polarity-requires
-polarity_or-polarity-requires c =
+pub code_or-polarity-requires : goal.code_or-polarity-requires
+code_or-polarity-requires c =
     rw c.requires.1.polarity (look_in c.args.d.now c.args.syntax 0x2020_0020)
 
 pub returns : goal.returns
-unfolding box_with
+unfolding box_with kept_code
 returns c =
     let a = c.args in
     let l = listing_of a.d.now a.syntax in
     let position = c.sent_at-position.ensures.2 ∙ ap (λ f. us_in (value_in a.d.now f)) c.requires.1.position in
-    let polarity = c.polarity_or-polarity.ensures ∙ ap (λ f. kept_code polarities a.d.now f a.b.polarity) c.requires.1.polarity ∙ kept_found polarities l 0x2020_0020 a.b.polarity in
+    let polarity = c.code_or-polarity.ensures ∙ ap (λ f. kept_code polarities a.d.now f a.b.polarity) c.requires.1.polarity ∙ kept_found polarities l 0x2020_0020 a.b.polarity in
     let picture = c.picture_after.ensures ∙ ap (λ i. picture_after a.next i a.b.picture.0) c.requires.1.image.0 in
     rw (position, polarity, picture)

@@ -1,21 +1,19 @@
 use Prim.Native.Nat.{ℕ, ◌<◌}
-use mathlib.Core.Path.{◌≡◌, refl, ap, ◌∙◌}
+use mathlib.Core.Path.{refl, ap, ◌∙◌}
 use mathlib.Core.List.{List, [], ◌∷◌}
 use native.Mathlib.Omega.{arith}
 use lib.ListN.{get_or}
 use Rattle.headers.specs.declared.Scope.{Scope}
-use Rattle.elements.specs.declared.Found.TheVariants.{Missing}
 use Rattle.elements.specs.Find.{find_at}
 use Rattle.finding.specs.Gathered.{ascending}
-use Rattle.rules.specs.Attributes.{listing_of, look}
 use Rattle.boxes.proofs.gathered.Goals as goal
 
 abbrev own : List ℕ
-own = 0x2020_0010 ∷ 0x2020_0020 ∷ 0x2020_0110 ∷ 0 ∷ 0 ∷ 0 ∷ 0 ∷ 0 ∷ 0 ∷ []
+own = 0x2020_0010 ∷ 0x2020_0020 ∷ 0x2020_0110 ∷ []
 
 pub gathered-own-requires : goal.gathered-own-requires
 unfolding ascending
-gathered-own-requires c = (c.data_scope.ensures.1, c.data_scope.ensures.2, omega arith, refl)
+gathered-own-requires c = (omega arith, (omega arith, (c.data_scope.ensures.1, c.data_scope.ensures.2, refl)))
 
 pub image_in-image-requires : goal.image_in-image-requires
 image_in-image-requires c =

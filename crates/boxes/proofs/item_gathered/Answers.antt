@@ -1,4 +1,5 @@
 use mathlib.Core.Path.{refl, ap, subst}
+use mathlib.Core.Logic.{inl, inr}
 use native.Mathlib.Omega.{arith}
 use lib.ListN.{length}
 use Rattle.rules.specs.Attributes.{is_fill}
@@ -11,16 +12,13 @@ pub gathered-requires : goal.gathered-requires
 unfolding ascending
 gathered-requires c =
     let w = subst (ImageWithin (length c.args.d.now)) c.in-Fills.is c.requires in
-    (w.0, w.1, omega arith, refl)
+    (omega arith, (omega arith, (w.0, w.1, refl)))
 
 pub returns-in-Keeps : goal.returns-in-Keeps
-returns-in-Keeps c = keeps_read c.args.d.now c.args.syntax c.args.image (ap is_fill c.in-Keeps.is)
-
-pub returns-in-Erases : goal.returns-in-Erases
-returns-in-Erases c = keeps_read c.args.d.now c.args.syntax c.args.image (ap is_fill c.in-Erases.is)
-
-pub returns-in-TooMany : goal.returns-in-TooMany
-returns-in-TooMany c = keeps_read c.args.d.now c.args.syntax c.args.image (ap is_fill c.in-TooMany.is)
+returns-in-Keeps c =
+    let d = c.args.d.now in
+    let read = keeps_read d c.args.syntax c.args.image in
+    elim c.in-Keeps.is [ inl e ↦ read (ap is_fill e) | inr f ↦ elim f [ inl e ↦ read (ap is_fill e) | inr e ↦ read (ap is_fill e) ] ]
 
 pub returns-in-Fills : goal.returns-in-Fills
 returns-in-Fills c =

@@ -1,21 +1,11 @@
 use mathlib.Core.Path.{◌∙◌}
 use Rattle.rules.specs.Attributes.{listing_of}
 use Rattle.boxes.proofs.Laws.{fits_found, image_pixels}
-use borrow.Author.Rules.{rules}
 use Rattle.boxes.proofs.pixels.Goals as goal
 
 pub item_pixels-requires : goal.item_pixels-requires
 item_pixels-requires c =
     (c.requires.0.1, fits_found (listing_of c.args.d.now c.args.syntax) _ _ c.in-Fills.is c.requires.0.0 c.requires.1)
-
-pub returns-in-Keeps : goal.returns-in-Keeps
-returns-in-Keeps c = (rw c.in-Keeps.is, search rules, search rules)
-
-pub returns-in-Erases : goal.returns-in-Erases
-returns-in-Erases c = (rw c.in-Erases.is, search rules, search rules)
-
-pub returns-in-TooMany : goal.returns-in-TooMany
-returns-in-TooMany c = (rw c.in-TooMany.is, search rules, search rules)
 
 pub returns-in-Fills : goal.returns-in-Fills
 returns-in-Fills c =

@@ -3,68 +3,61 @@ use native.Mathlib.Omega.{arith}
 use Rattle.records.specs.Places.{core_in}
 use Rattle.changes.specs.Changes.{affected, EffectFits}
 use Rattle.changes.proofs.Spots.{held}
+use Rattle.records.proofs.Whole.{whole}
 use Rattle.changes.proofs.put_change.Goals as goal
 
 pub put_session_created-requires : goal.put_session_created-requires
 unfolding EffectFits
 put_session_created-requires c =
-    let p = c.requires in
-    let fits = subst (EffectFits (core_in c.args.b.now)) c.in-SessionCreated.is p.2 in
-    (p.0, fits)
+    let fits = subst (EffectFits (core_in c.args.b.now)) c.in-SessionCreated.is c.requires.1 in
+    fits
 
 pub put_film_created-requires : goal.put_film_created-requires
 unfolding EffectFits
 put_film_created-requires c =
-    let p = c.requires in
-    let fits = subst (EffectFits (core_in c.args.b.now)) c.in-FilmCreated.is p.2 in
-    (p.0, p.1, fits.0, fits.1)
+    let fits = subst (EffectFits (core_in c.args.b.now)) c.in-FilmCreated.is c.requires.1 in
+    (c.requires.0, fits.0, fits.1)
 
 pub put_film_set-requires : goal.put_film_set-requires
 unfolding EffectFits
 put_film_set-requires c =
-    let p = c.requires in
-    let fits = subst (EffectFits (core_in c.args.b.now)) c.in-FilmSet.is p.2 in
-    (p.0, p.1, fits)
+    let fits = subst (EffectFits (core_in c.args.b.now)) c.in-FilmSet.is c.requires.1 in
+    (c.requires.0, fits)
 
 pub put_box_set-requires : goal.put_box_set-requires
 unfolding EffectFits
 put_box_set-requires c =
-    let p = c.requires in
-    let fits = subst (EffectFits (core_in c.args.b.now)) c.in-BoxSet.is p.2 in
-    (p.0, p.1, fits.0, fits.1, fits.2)
+    let fits = subst (EffectFits (core_in c.args.b.now)) c.in-BoxSet.is c.requires.1 in
+    (c.requires.0, fits.0, fits.1, fits.2)
 
 pub put_film_printed-requires : goal.put_film_printed-requires
 unfolding EffectFits
 put_film_printed-requires c =
-    let p = c.requires in
-    let fits = subst (EffectFits (core_in c.args.b.now)) c.in-FilmPrinted.is p.2 in
-    (p.0, p.1, fits.0, fits.1)
+    let fits = subst (EffectFits (core_in c.args.b.now)) c.in-FilmPrinted.is c.requires.1 in
+    (c.requires.0, fits.0, fits.1)
 
 pub put_session_printed-requires : goal.put_session_printed-requires
 unfolding EffectFits
 put_session_printed-requires c =
-    let p = c.requires in
-    let fits = subst (EffectFits (core_in c.args.b.now)) c.in-SessionPrinted.is p.2 in
-    (p.0, p.1, fits.0, fits.1)
+    let fits = subst (EffectFits (core_in c.args.b.now)) c.in-SessionPrinted.is c.requires.1 in
+    (c.requires.0, fits.0, fits.1)
 
 pub put_film_deleted-requires : goal.put_film_deleted-requires
 unfolding EffectFits
 put_film_deleted-requires c =
-    let p = c.requires in
-    let fits = subst (EffectFits (core_in c.args.b.now)) c.in-FilmDeleted.is p.2 in
-    (p.0, p.1, fits)
+    let fits = subst (EffectFits (core_in c.args.b.now)) c.in-FilmDeleted.is c.requires.1 in
+    (c.requires.0, fits)
 
 pub put_session_deleted-requires : goal.put_session_deleted-requires
 unfolding EffectFits
 put_session_deleted-requires c =
-    let p = c.requires in
-    let fits = subst (EffectFits (core_in c.args.b.now)) c.in-SessionDeleted.is p.2 in
-    (p.0, fits)
+    let fits = subst (EffectFits (core_in c.args.b.now)) c.in-SessionDeleted.is c.requires.1 in
+    fits
 
 pub returns-in-Kept : goal.returns-in-Kept
 unfolding affected
 returns-in-Kept c =
-    rw c.in-Kept.is (held c.args.b.now (λ i. omega (arith, c.slice_known-1.given i)) c.requires.0)
+    rw c.in-Kept.is (held c.args.b.now (λ i. omega (arith, c.fits-b i)) (whole _ c.told-b))
 
 pub returns-in-SessionCreated : goal.returns-in-SessionCreated
 unfolding affected

@@ -14,11 +14,10 @@ use Rattle.changes.proofs.put_film_printed.Goals as goal
 pub printed_film-after-requires : goal.printed_film-after-requires
 printed_film-after-requires c =
     let a = c.args in
-    let p = c.requires in
-    subst (λ (k : Core). FilmThere k a.place × (queued (entries_of k.queue) ≡ k.queue) × (length (entries_of k.queue) < most_entries)) (sym c.core_at-core.ensures) (p.2, p.1.1, p.3)
+    subst (λ (k : Core). FilmThere k a.place × (queued (entries_of k.queue) ≡ k.queue) × (length (entries_of k.queue) < most_entries)) (sym c.read_at-core.ensures) (c.requires.1, c.requires.0.1, c.requires.2)
 
 pub returns : goal.returns
 returns c =
     let a = c.args in
-    c.put_core.ensures
-    ∙ ap (λ (k : Core). write core_format k a.b.now 0) (c.printed_film-after.ensures ∙ ap (λ (k : Core). printed k (film_at k a.place ∷ [])) c.core_at-core.ensures)
+    c.put.ensures
+    ∙ ap (λ (k : Core). write core_format k a.b.now 0) (c.printed_film-after.ensures ∙ ap (λ (k : Core). printed k (film_at k a.place ∷ [])) c.read_at-core.ensures)

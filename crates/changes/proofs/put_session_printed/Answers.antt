@@ -13,11 +13,10 @@ use Rattle.changes.proofs.put_session_printed.Goals as goal
 pub printed_session-after-requires : goal.printed_session-after-requires
 printed_session-after-requires c =
     let a = c.args in
-    let p = c.requires in
-    subst (λ (k : Core). AllUnder k × (queued (entries_of k.queue) ≡ k.queue) × (length (entries_of k.queue) + length (films_under 0 k.shelf) ≤ most_entries)) (sym c.core_at-core.ensures) (p.2, p.1.1, p.3)
+    subst (λ (k : Core). AllUnder k × (queued (entries_of k.queue) ≡ k.queue) × (length (entries_of k.queue) + length (films_under 0 k.shelf) ≤ most_entries)) (sym c.read_at-core.ensures) (c.requires.1, c.requires.0.1, c.requires.2)
 
 pub returns : goal.returns
 returns c =
     let a = c.args in
-    c.put_core.ensures
-    ∙ ap (λ (k : Core). write core_format k a.b.now 0) (c.printed_session-after.ensures ∙ ap (λ (k : Core). printed k (films_under 0 k.shelf)) c.core_at-core.ensures)
+    c.put.ensures
+    ∙ ap (λ (k : Core). write core_format k a.b.now 0) (c.printed_session-after.ensures ∙ ap (λ (k : Core). printed k (films_under 0 k.shelf)) c.read_at-core.ensures)

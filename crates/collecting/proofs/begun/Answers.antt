@@ -6,7 +6,7 @@ use Rattle.collecting.proofs.begun.Goals as goal
 
 pub returns-then-phase-eq1 : goal.returns-then-phase-eq1
 returns-then-phase-eq1 c =
-    met_as (before_held (held_in c.args.b.now) c.requires.1 (sym c.phase.ensures ∙ c.if-phase-eq1.true)) c.holding.ensures
+    met_as (before_held (held_in c.args.b.now) c.requires (sym c.phase.ensures ∙ c.if-phase-eq1.true)) c.holding.ensures
 
 pub returns : goal.returns
 returns c =

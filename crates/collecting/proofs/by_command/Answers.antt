@@ -12,22 +12,22 @@ use Rattle.collecting.specs.Collecting.{command_before, collected_of}
 use Rattle.collecting.proofs.Filled.{held_back, held_filled}
 use Rattle.collecting.proofs.Held.{met_as, met_over}
 use Rattle.collecting.proofs.Outcomes.{command_arm, command_fits}
-use borrow.Author.Rules.{rules}
+use Rattle.records.proofs.Whole.{whole}
 use Rattle.collecting.proofs.by_command.Goals as goal
 
 pub gathered-requires : goal.gathered-requires
 gathered-requires c =
-    (c.requires.0, c.requires.1, command_fits (held_in c.args.b.now) c.args.bytes.now c.args.last (sym c.command_next-next.ensures ∙ c.in-InCommand.is) refl)
+    (c.requires, command_fits (held_in c.args.b.now) c.args.bytes.now c.args.last (sym c.command_next-next.ensures ∙ c.in-InCommand.is) refl)
 
 pub gathered-requires-in-InData : goal.gathered-requires-in-InData
 gathered-requires-in-InData c =
-    (c.requires.0, c.requires.1, command_fits (held_in c.args.b.now) c.args.bytes.now c.args.last (sym c.command_next-next.ensures ∙ c.in-InData.is) refl)
+    (c.requires, command_fits (held_in c.args.b.now) c.args.bytes.now c.args.last (sym c.command_next-next.ensures ∙ c.in-InData.is) refl)
 
 pub read-requires : goal.read-requires
 read-requires c =
     let fits = command_fits (held_in c.args.b.now) c.args.bytes.now c.args.last (sym c.command_next-next.ensures ∙ c.in-InData.is) refl in
     let before = command_before (held_in c.args.b.now) in
-    (search rules, held_filled _ (before ++ c.args.bytes.now) c.gathered-in-InData.ensures.put.back (omega (arith, fits, length-append before c.args.bytes.now)))
+    held_filled _ (before ++ c.args.bytes.now) c.gathered-in-InData.ensures.put.back (omega (arith, fits, length-append before c.args.bytes.now))
 
 pub returns-in-Idle : goal.returns-in-Idle
 unfolding collected_of input_held
@@ -50,7 +50,7 @@ returns-in-InData c =
     met_as
     (ap (λ (x : List ℕ). collected_of (reads (reading x) x)) (ap command_held m.put.back ∙ held_back (command_before (held_in c.args.b.now) ++ c.args.bytes.now))
     ∙ sym (command_arm (held_in c.args.b.now) c.args.bytes.now c.args.last (sym c.command_next-next.ensures ∙ c.in-InData.is)))
-    (met_over c.args.b.now c.requires.0 m c.read.ensures)
+    (met_over c.args.b.now (whole _ c.told-b) m c.read.ensures)
 
 pub returns-in-SkippingData : goal.returns-in-SkippingData
 unfolding collected_of input_held

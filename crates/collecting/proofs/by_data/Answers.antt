@@ -11,7 +11,7 @@ pub returns-in-Idle : goal.returns-in-Idle
 unfolding collected_of collect laid_by
 returns-in-Idle c =
     let a = c.args in
-    let e = sym (c.of-state.ensures ∙ ap state_of c.phase.ensures) ∙ c.in-Idle.is in (
+    let e = sym (c.from-state.ensures ∙ ap state_of c.phase.ensures) ∙ c.in-Idle.is in (
       met_as (sym (ap collected_of (data_arm (length a.message.now) (held_in a.b.now) a.message.now a.bytes.now a.last e))) c.nothing.ensures,
       sym (laid_arm (length a.message.now) (held_in a.b.now) a.message.now a.bytes.now a.last e),
     )
@@ -20,7 +20,7 @@ pub returns-in-InCommand : goal.returns-in-InCommand
 unfolding collected_of collect laid_by
 returns-in-InCommand c =
     let a = c.args in
-    let e = sym (c.of-state.ensures ∙ ap state_of c.phase.ensures) ∙ c.in-InCommand.is in (
+    let e = sym (c.from-state.ensures ∙ ap state_of c.phase.ensures) ∙ c.in-InCommand.is in (
       met_as (sym (ap collected_of (data_arm (length a.message.now) (held_in a.b.now) a.message.now a.bytes.now a.last e))) c.nothing-in-InCommand.ensures,
       sym (laid_arm (length a.message.now) (held_in a.b.now) a.message.now a.bytes.now a.last e),
     )
@@ -29,7 +29,7 @@ pub returns-in-SkippingCommand : goal.returns-in-SkippingCommand
 unfolding collected_of collect laid_by
 returns-in-SkippingCommand c =
     let a = c.args in
-    let e = sym (c.of-state.ensures ∙ ap state_of c.phase.ensures) ∙ c.in-SkippingCommand.is in (
+    let e = sym (c.from-state.ensures ∙ ap state_of c.phase.ensures) ∙ c.in-SkippingCommand.is in (
       met_as (sym (ap collected_of (data_arm (length a.message.now) (held_in a.b.now) a.message.now a.bytes.now a.last e))) c.nothing-in-SkippingCommand.ensures,
       sym (laid_arm (length a.message.now) (held_in a.b.now) a.message.now a.bytes.now a.last e),
     )
@@ -38,16 +38,16 @@ pub returns-in-InData : goal.returns-in-InData
 unfolding collect
 returns-in-InData c =
     let a = c.args in
-    let e = sym (c.of-state.ensures ∙ ap state_of c.phase.ensures) ∙ c.in-InData.is in (
+    let e = sym (c.from-state.ensures ∙ ap state_of c.phase.ensures) ∙ c.in-InData.is in (
       met_as (sym (ap collected_of (data_arm (length a.message.now) (held_in a.b.now) a.message.now a.bytes.now a.last e))) c.stored.ensures.0,
-      c.stored.ensures.1 ∙ laid_in (held_in a.b.now) a.message.now a.bytes.now a.last c.requires.2 ∙ sym (laid_arm (length a.message.now) (held_in a.b.now) a.message.now a.bytes.now a.last e),
+      c.stored.ensures.1 ∙ laid_in (held_in a.b.now) a.message.now a.bytes.now a.last c.requires.1 ∙ sym (laid_arm (length a.message.now) (held_in a.b.now) a.message.now a.bytes.now a.last e),
     )
 
 pub returns-in-SkippingData : goal.returns-in-SkippingData
 unfolding collected_of collect laid_by
 returns-in-SkippingData c =
     let a = c.args in
-    let e = sym (c.of-state.ensures ∙ ap state_of c.phase.ensures) ∙ c.in-SkippingData.is in (
+    let e = sym (c.from-state.ensures ∙ ap state_of c.phase.ensures) ∙ c.in-SkippingData.is in (
       met_as (sym (ap collected_of (data_arm (length a.message.now) (held_in a.b.now) a.message.now a.bytes.now a.last e))) c.overflowed.ensures,
       sym (laid_arm (length a.message.now) (held_in a.b.now) a.message.now a.bytes.now a.last e),
     )

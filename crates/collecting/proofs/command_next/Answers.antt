@@ -12,11 +12,11 @@ use Rattle.collecting.proofs.command_next.Goals as goal
 pub returns-then-used_before-n : goal.returns-then-used_before-n
 returns-then-used_before-n c =
     let a = c.args in
-    c.after_command.ensures ∙ measured _ _ false _ a.last (c.of-state.ensures ∙ ap state_of c.phase.ensures)
+    c.after_command.ensures ∙ measured _ _ false _ a.last (c.from-state.ensures ∙ ap state_of c.phase.ensures)
     (lt-leb (length (command_before (held_in a.b.now)) + a.n) 1024 (omega (arith, c.if-used_before-n.true, c.used_before.ensures)))
 
 pub returns : goal.returns
 returns c =
     let a = c.args in
-    c.after_command-2.ensures ∙ measured _ _ true _ a.last (c.of-state.ensures ∙ ap state_of c.phase.ensures)
+    c.after_command-2.ensures ∙ measured _ _ true _ a.last (c.from-state.ensures ∙ ap state_of c.phase.ensures)
     (le-leb (length (command_before (held_in a.b.now)) + a.n) 1024 (omega (arith, c.if-used_before-n.false, c.used_before.ensures)))

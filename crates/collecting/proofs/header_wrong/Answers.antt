@@ -1,6 +1,6 @@
 use mathlib.Core.Path.{sym, ◌∙◌}
 use native.Mathlib.Omega.{arith}
-use Rattle.collecting.proofs.Headers.{too_short, told_small, told_other, context_other, control_other, not_wrong}
+use Rattle.collecting.proofs.Headers.{too_short, told_small, told_other, context_other, control_told}
 use Rattle.collecting.proofs.header_wrong.Goals as goal
 
 pub returns-then-given-lt6 : goal.returns-then-given-lt6
@@ -23,12 +23,7 @@ returns-then-fragment-context c =
     let n = c.big_number_at-n.ensures.0 in
     context_other a.context a.fragment.now c.if-given-lt6.false (omega (arith, c.if-n-lt2.false, n)) (sym n ∙ c.if-n-given.false) c.if-fragment-context.true
 
-pub returns-then-fragment-ne0 : goal.returns-then-fragment-ne0
-returns-then-fragment-ne0 c =
-    let n = c.big_number_at-n.ensures.0 in
-    control_other c.args.context c.args.fragment.now c.if-given-lt6.false (omega (arith, c.if-n-lt2.false, n)) (sym n ∙ c.if-n-given.false) c.if-fragment-context.false c.if-fragment-ne0.true
-
 pub returns : goal.returns
 returns c =
     let n = c.big_number_at-n.ensures.0 in
-    not_wrong c.args.context c.args.fragment.now c.if-given-lt6.false (omega (arith, c.if-n-lt2.false, n)) (sym n ∙ c.if-n-given.false) c.if-fragment-context.false c.if-fragment-ne0.false
+    control_told c.args.context c.args.fragment.now c.if-given-lt6.false (omega (arith, c.if-n-lt2.false, n)) (sym n ∙ c.if-n-given.false) c.if-fragment-context.false

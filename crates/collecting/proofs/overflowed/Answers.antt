@@ -5,4 +5,4 @@ use Rattle.collecting.proofs.overflowed.Goals as goal
 
 pub returns : goal.returns
 returns c =
-    met_as (overflow_arm (held_in c.args.b.now) c.args.last _ _ c.requires.1 c.data_answer.ensures c.after_data-next.ensures) c.holding.ensures
+    met_as (overflow_arm (held_in c.args.b.now) c.args.last _ _ c.requires c.data_answer.ensures c.after_data-next.ensures) c.holding.ensures

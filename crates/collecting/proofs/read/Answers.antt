@@ -15,9 +15,9 @@ returns-in-NotReadable c =
 pub returns-in-Alone : goal.returns-in-Alone
 returns-in-Alone c =
     let i = held_in c.args.b.now in
-    met_as (holds_filled (Asks Absent) Idle i 0 c.requires.1 ∙ sym (read_arm i (ap reading (sym c.command_held.ensures) ∙ sym c.read_as-reads.ensures ∙ c.in-Alone.is))) c.holding.ensures
+    met_as (holds_filled (Asks Absent) Idle i 0 c.requires ∙ sym (read_arm i (ap reading (sym c.command_held.ensures) ∙ sym c.read_as-reads.ensures ∙ c.in-Alone.is))) c.holding.ensures
 
 pub returns-in-WithData : goal.returns-in-WithData
 returns-in-WithData c =
     let i = held_in c.args.b.now in
-    met_as (holds_filled Wait InData i 0 c.requires.1 ∙ sym (read_arm i (ap reading (sym c.command_held.ensures) ∙ sym c.read_as-reads.ensures ∙ c.in-WithData.is))) c.holding-in-WithData.ensures
+    met_as (holds_filled Wait InData i 0 c.requires ∙ sym (read_arm i (ap reading (sym c.command_held.ensures) ∙ sym c.read_as-reads.ensures ∙ c.in-WithData.is))) c.holding-in-WithData.ensures

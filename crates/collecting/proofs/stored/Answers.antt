@@ -14,7 +14,7 @@ returns-then-message-before c =
     let a = c.args in
     let i = held_in a.b.now in
     let before = c.got-before.ensures.0 in (
-      met_as (stored_over i a.message.now a.bytes.now a.last c.requires.2 (omega (arith, c.if-message-before.true, before))) c.overflowed.ensures,
+      met_as (stored_over i a.message.now a.bytes.now a.last c.requires.1 (omega (arith, c.if-message-before.true, before))) c.overflowed.ensures,
       stored_none i.got a.message.now a.bytes.now (omega (arith, c.if-message-before.true, before)),
     )
 
@@ -25,7 +25,7 @@ returns c =
     let before = c.got-before.ensures.0 in (
       met_as
           (ap (λ (n : ℕ). holds c.data_answer.result c.after_data-next.result i (n + length a.bytes.now)) before
-          ∙ stored_arm i a.message.now a.bytes.now a.last c.requires.2 _ _ c.requires.1 (omega (arith, c.if-message-before.false, before, c.requires.2)) c.data_answer.ensures c.after_data-next.ensures)
+          ∙ stored_arm i a.message.now a.bytes.now a.last c.requires.1 _ _ c.requires.0 (omega (arith, c.if-message-before.false, before, c.requires.1)) c.data_answer.ensures c.after_data-next.ensures)
           c.holding.ensures,
-      c.put.ensures ∙ ap (λ (n : ℕ). laid a.message.now n a.bytes.now) before ∙ stored_all i.got a.message.now a.bytes.now (omega (arith, c.if-message-before.false, before, c.requires.2)),
+      c.put.ensures ∙ ap (λ (n : ℕ). laid a.message.now n a.bytes.now) before ∙ stored_all i.got a.message.now a.bytes.now (omega (arith, c.if-message-before.false, before, c.requires.1)),
     )

@@ -1,4 +1,4 @@
 use Rattle.commands.proofs.understood.Goals as goal
 
 pub returns : goal.returns
-returns c = c.said-all.ensures.0
+returns c = c.said.ensures.0

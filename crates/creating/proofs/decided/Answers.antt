@@ -1,4 +1,7 @@
+use Prim.Native.Nat.{ℕ}
 use mathlib.Core.Path.{ap, ◌∙◌}
+use mathlib.Core.List.{List}
+use Rattle.rules.specs.declared.Request.{Request}
 use Rattle.rules.specs.Checks.{quietly, create_plan}
 use Rattle.records.specs.Places.{core_in}
 use Rattle.creating.proofs.decided.Goals as goal
@@ -8,7 +11,7 @@ unfolding create_plan
 returns-in-Verification c =
     let k = core_in c.args.b.now in
     let quiet = c.quiet.ensures k in
-    (quiet.0 ∙ rw c.in-Verification.is (ap (quietly k) c.no_name.ensures), quiet.1)
+    λ (command : List ℕ) (r : Request). (quiet.0 ∙ rw c.in-Verification.is (ap (quietly k) c.no_name.ensures), quiet.1)
 
 pub returns-in-Sessions : goal.returns-in-Sessions
 returns-in-Sessions c = rw (c.in-Sessions.is, ← c.syntax_in.ensures) c.session_decided.ensures
@@ -21,11 +24,11 @@ unfolding create_plan
 returns-in-Boxes c =
     let k = core_in c.args.b.now in
     let quiet = c.quiet-in-Boxes.ensures k in
-    (quiet.0 ∙ rw c.in-Boxes.is (ap (quietly k) c.no_name-in-Boxes.ensures), quiet.1)
+    λ (command : List ℕ) (r : Request). (quiet.0 ∙ rw c.in-Boxes.is (ap (quietly k) c.no_name-in-Boxes.ensures), quiet.1)
 
 pub returns-in-UnknownClass : goal.returns-in-UnknownClass
 unfolding create_plan
 returns-in-UnknownClass c =
     let k = core_in c.args.b.now in
     let quiet = c.quiet-in-UnknownClass.ensures k in
-    (quiet.0 ∙ rw c.in-UnknownClass.is (ap (quietly k) c.no_name-in-UnknownClass.ensures), quiet.1)
+    λ (command : List ℕ) (r : Request). (quiet.0 ∙ rw c.in-UnknownClass.is (ap (quietly k) c.no_name-in-UnknownClass.ensures), quiet.1)

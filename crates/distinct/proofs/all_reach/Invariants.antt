@@ -1,4 +1,3 @@
-use Prim.Native.Nat.{◌-◌}
 use mathlib.Core.Path.{◌≡◌}
 use mathlib.Core.List.{◌∷◌}
 use lib.ListN.{drop}
@@ -10,6 +9,3 @@ use Rattle.distinct.proofs.all_reach.Given as goal
 
 abbrev pub invariant-loop-i : goal.invariant-loop-i
 invariant-loop-i l = reaches 0 (own_serial (session_in l.b).name ∷ serials_of (films_in l.b l.n)) ≡ reaches l.stop (serials_of (drop l.i (films_in l.b l.n)))
-
-abbrev pub decreases-loop-i : goal.decreases-loop-i
-decreases-loop-i l = l.n - l.i

@@ -17,11 +17,11 @@ element-loop-q-init t c =
     let n = head_nest _ _ _ _ _ c.requires.0 (sym c.in-Nest.ensures) in
     (n.1.0, omega arith, omega arith, refl, omega arith)
 
-pub element-returns-in-Here : goal.element-returns-in-Here
-element-returns-in-Here t c =
+pub element-returns-in-Some : goal.element-returns-in-Some
+element-returns-in-Some t c =
     let o = c.loop-q in
     let head = sym c.in-Nest.ensures in
-    let k = sym c.in-Here.ensures in
+    let k = sym c.in-Some.ensures in
     (sym (element_nest _ _ _ _ _ _ c.if-room-eq0.false head ∙ o.invariant.3 ∙ items_done _ _ _ _ _ o.invariant.0 k), ap (λ (n : ℕ). o.passed + n) (c.delimiters.ensures.0 ∙ sym (passed_items_done _ _ _ _ _ o.invariant.0 k)) ∙ sym (passed_nest _ _ _ _ _ _ c.if-room-eq0.false head ∙ o.invariant.4))
 
 pub element-overflow_add-passed : goal.element-overflow_add-passed
@@ -31,25 +31,25 @@ element-overflow_add-passed t c =
 
 pub element-loop-q-smaller : goal.element-loop-q-smaller
 element-loop-q-smaller t c =
-    let b = item_past _ _ _ c.loop-q.invariant.0 _ _ (sym c.item-part.ensures.0 ∙ c.in-Past.is) in
+    let b = item_past _ _ _ c.loop-q.invariant.0 _ _ (sym c.item-part.ensures.0 ∙ c.in-Ok.is) in
     omega arith
 
 pub element-loop-q-preserved : goal.element-loop-q-preserved
 element-loop-q-preserved t c =
     let o = c.loop-q in
-    let k = sym c.closing-close.ensures ∙ c.in_default.is in
-    let e = sym c.item-part.ensures.0 ∙ c.in-Past.is in
+    let k = sym c.closing.ensures ∙ c.in_default.is in
+    let e = sym c.item-part.ensures.0 ∙ c.in-Ok.is in
     let b = item_passed_past _ _ _ _ _ o.invariant.0 e in
     let n = passed_items_more _ _ _ _ _ o.invariant.0 k e in
     ((item_past _ _ _ o.invariant.0 _ _ e).1, o.invariant.1, omega (arith, c.item-part.ensures.1), o.invariant.3 ∙ items_more _ _ _ _ _ o.invariant.0 k e, omega (arith, c.item-part.ensures.1))
 
-pub element-returns-in-Refused : goal.element-returns-in-Refused
-element-returns-in-Refused t c =
+pub element-returns-in_default-read : goal.element-returns-in_default-read
+element-returns-in_default-read t c =
     let o = c.loop-q in
     let head = sym c.in-Nest.ensures in
-    let k = sym c.closing-close.ensures ∙ c.in_default.is in
-    let e = sym c.item-part.ensures.0 ∙ c.in-Refused.is in
-    (sym (element_nest _ _ _ _ _ _ c.if-room-eq0.false head ∙ o.invariant.3 ∙ items_refused _ _ _ _ _ o.invariant.0 k e), ap (λ (n : ℕ). o.passed + n) (c.item-part.ensures.1 ∙ sym (passed_items_refused _ _ _ _ _ o.invariant.0 k e)) ∙ sym (passed_nest _ _ _ _ _ _ c.if-room-eq0.false head ∙ o.invariant.4))
+    let k = sym c.closing.ensures ∙ c.in_default.is in
+    let e = sym c.item-part.ensures.0 ∙ c.in_default-read.is in
+    (c.in_default-read.is ∙ sym (element_nest _ _ _ _ _ _ c.if-room-eq0.false head ∙ o.invariant.3 ∙ items_refused _ _ _ _ _ o.invariant.0 k e), ap (λ (n : ℕ). o.passed + n) (c.item-part.ensures.1 ∙ sym (passed_items_refused _ _ _ _ _ o.invariant.0 k e)) ∙ sym (passed_nest _ _ _ _ _ _ c.if-room-eq0.false head ∙ o.invariant.4))
 
 pub element-returns-in-Fault : goal.element-returns-in-Fault
 element-returns-in-Fault t c =
@@ -92,10 +92,10 @@ pub list-loop-q-init : goal.list-loop-q-init
 unfolding list_at passed_in
 list-loop-q-init t c = (c.requires.0, omega arith, refl, omega arith)
 
-pub list-returns-in-Here : goal.list-returns-in-Here
-list-returns-in-Here t c =
+pub list-returns-in-Some : goal.list-returns-in-Some
+list-returns-in-Some t c =
     let o = c.loop-q in
-    let k = sym c.in-Here.ensures in
+    let k = sym c.in-Some.ensures in
     (sym (o.invariant.2 ∙ list_done _ _ _ _ _ o.invariant.0 _ k), ap (λ (n : ℕ). o.passed + n) (c.delimiters.ensures.0 ∙ sym (passed_list_done _ _ _ _ _ o.invariant.0 _ k)) ∙ sym o.invariant.3)
 
 pub list-overflow_add-passed : goal.list-overflow_add-passed
@@ -105,26 +105,26 @@ list-overflow_add-passed t c =
 
 pub list-tag_at-floor-requires : goal.list-tag_at-floor-requires
 list-tag_at-floor-requires t c =
-    let b = element_past _ _ _ _ _ c.loop-q.invariant.0 _ (sym c.element-part.ensures.0 ∙ c.in-Past.is) in
+    let b = element_past _ _ _ _ _ c.loop-q.invariant.0 _ (sym c.element-part.ensures.0 ∙ c.in-Ok.is) in
     omega arith
 
 pub list-loop-q-smaller : goal.list-loop-q-smaller
 list-loop-q-smaller t c =
-    let b = element_past _ _ _ _ _ c.loop-q.invariant.0 _ (sym c.element-part.ensures.0 ∙ c.in-Past.is) in
+    let b = element_past _ _ _ _ _ c.loop-q.invariant.0 _ (sym c.element-part.ensures.0 ∙ c.in-Ok.is) in
     omega arith
 
 pub list-loop-q-preserved : goal.list-loop-q-preserved
 list-loop-q-preserved t c =
     let o = c.loop-q in
-    let k = sym c.closing-close.ensures ∙ c.in_default.is in
-    let e = sym c.element-part.ensures.0 ∙ c.in-Past.is in
+    let k = sym c.closing.ensures ∙ c.in_default.is in
+    let e = sym c.element-part.ensures.0 ∙ c.in-Ok.is in
     let b = element_passed_past _ _ _ _ _ o.invariant.0 _ e in
     let n = passed_list_more _ _ _ _ _ o.invariant.0 _ k e in
     ((element_past _ _ _ _ _ o.invariant.0 _ e).1, omega (arith, c.element-part.ensures.1), rw c.tag_at-floor.ensures.0 (o.invariant.2 ∙ list_more _ _ _ _ _ o.invariant.0 _ k e), rw c.tag_at-floor.ensures.0 (omega (arith, c.element-part.ensures.1)))
 
-pub list-returns-in-Refused : goal.list-returns-in-Refused
-list-returns-in-Refused t c =
+pub list-returns-in_default-read : goal.list-returns-in_default-read
+list-returns-in_default-read t c =
     let o = c.loop-q in
-    let k = sym c.closing-close.ensures ∙ c.in_default.is in
-    let e = sym c.element-part.ensures.0 ∙ c.in-Refused.is in
-    (sym (o.invariant.2 ∙ list_refused _ _ _ _ _ o.invariant.0 _ k e), ap (λ (n : ℕ). o.passed + n) (c.element-part.ensures.1 ∙ sym (passed_list_refused _ _ _ _ _ o.invariant.0 _ k e)) ∙ sym o.invariant.3)
+    let k = sym c.closing.ensures ∙ c.in_default.is in
+    let e = sym c.element-part.ensures.0 ∙ c.in_default-read.is in
+    (c.in_default-read.is ∙ sym (o.invariant.2 ∙ list_refused _ _ _ _ _ o.invariant.0 _ k e), ap (λ (n : ℕ). o.passed + n) (c.element-part.ensures.1 ∙ sym (passed_list_refused _ _ _ _ _ o.invariant.0 _ k e)) ∙ sym o.invariant.3)

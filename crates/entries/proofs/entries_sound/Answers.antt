@@ -1,34 +1,26 @@
-use Prim.Native.Nat.{◌-◌}
-use mathlib.Core.Path.{refl, sym, ◌∙◌}
-use native.Mathlib.Omega.{arith}
+use Prim.Native.Nat.{ℕ}
+use mathlib.Core.Path.{◌≡◌, refl, ◌∙◌}
+use mathlib.Core.List.{List}
+use borrow.Author.Rules.{rules}
+use borrow.Author.Tests.{tests}
+use Rattle.std.proofs.iter.Serving.{serving}
+use Rattle.octets.specs.Octets.{number_at}
 use Rattle.rules.specs.Layout.{numbers_format}
 use Rattle.rules.specs.Sound.{entry_sound}
 use Rattle.records.specs.Places.{numbers_in}
-use Rattle.entries.proofs.Queue.{entry_on, entry_not, entry_end}
+use Rattle.entries.proofs.Queue.{entries_told}
 use Rattle.entries.proofs.entries_sound.Goals as goal
 
-pub loop-i-init : goal.loop-i-init
-loop-i-init c = refl
-
-pub entry_sound-requires : goal.entry_sound-requires
+next_picture : (b : List ℕ) → number_at 5 b 46 ≡ (numbers_in b).picture
 unfolding numbers_format
-entry_sound-requires c =
-    (c.requires.0, omega arith, c.next_at-picture.ensures.0)
+next_picture b = refl
 
-pub returns-then-not-entry_sound : goal.returns-then-not-entry_sound
-returns-then-not-entry_sound c =
-    let b = c.args.b.now in
-    let o = c.loop-i in
-    sym (o.invariant ∙ entry_not (entry_sound (numbers_in b)) b c.args.n o.i _ c.entry_place.ensures.0 c.loop-i-test.true c.requires.1 c.entry_sound.result c.entry_sound.ensures c.if-not-entry_sound.true)
-
-pub loop-i-preserved : goal.loop-i-preserved
-loop-i-preserved c =
-    let b = c.args.b.now in
-    let o = c.loop-i in
-    o.invariant ∙ entry_on (entry_sound (numbers_in b)) b c.args.n o.i _ c.entry_place.ensures.0 c.loop-i-test.true c.requires.1 c.entry_sound.result c.entry_sound.ensures c.if-not-entry_sound.false
+pub all-requires-clause-callable : goal.all-requires-clause-callable
+all-requires-clause-callable c =
+    let picture : c.next_at-picture.result ≡ (numbers_in c.args.b.now).picture = c.next_at-picture.ensures.0 ∙ next_picture c.args.b.now in
+    grind serving
 
 pub returns : goal.returns
 returns c =
-    let b = c.args.b.now in
-    let o = c.loop-i in
-    sym (o.invariant ∙ entry_end (entry_sound (numbers_in b)) b c.args.n o.i c.loop-i-test.false)
+    let a = c.args in
+    entries_told (entry_sound (numbers_in a.b.now)) a.b.now a.n c.requires _ _ c.all.ensures.ran (λ x q k. search (rules, tests)) (λ x q k. search (rules, tests))

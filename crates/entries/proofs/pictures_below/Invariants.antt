@@ -1,4 +1,3 @@
-use Prim.Native.Nat.{◌-◌}
 use mathlib.Core.Path.{◌≡◌}
 use lib.Dec.{ltb}
 use lib.ListN.{take, drop}
@@ -14,6 +13,3 @@ abbrev pub invariant-loop-i : goal.invariant-loop-i
 invariant-loop-i l =
     every (λ (x : Picture). ltb x.0 l.next) ((array most_boxes picture_format).read l.b l.p)
     ≡ both l.below (every (λ (x : Picture). ltb x.0 l.next) (drop l.i (take most_boxes ((array most_boxes picture_format).read l.b l.p))))
-
-abbrev pub decreases-loop-i : goal.decreases-loop-i
-decreases-loop-i l = most_boxes - l.i

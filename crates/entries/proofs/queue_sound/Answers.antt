@@ -1,22 +1,17 @@
 use mathlib.Core.Path.{sym, ◌∙◌}
-use native.Mathlib.Omega.{arith}
-use lib.ListN.{get_or}
-use Rattle.records.specs.Places.{queue_place}
-use Rattle.names.proofs.Tests.{tests}
+use Rattle.names.proofs.Tests.{first_failed, tests}
 use Rattle.entries.proofs.Queue.{queue_told, rest_blank}
+use Rattle.records.proofs.Whole.{whole}
 use Rattle.entries.proofs.queue_sound.Goals as goal
 
-pub overflow_cast-count : goal.overflow_cast-count
-overflow_cast-count c = omega (arith, c.shared_slice_known-2-1.given queue_place)
-
 pub returns-then-count-gt16 : goal.returns-then-count-gt16
-returns-then-count-gt16 c = queue_told c.args.b.now (search tests depth 6)
+returns-then-count-gt16 c = queue_told c.args.b.now _ c.from-count.ensures (search tests depth 6)
 
-pub returns-then-not-entries_sound : goal.returns-then-not-entries_sound
-returns-then-not-entries_sound c = queue_told c.args.b.now (search tests depth 6)
-
-pub returns : goal.returns
-returns c =
+pub returns-then-entries_sound : goal.returns-then-entries_sound
+returns-then-entries_sound c =
     let b = c.args.b.now in
-    let blank = c.zeros_in.ensures ∙ sym (rest_blank b (get_or b queue_place 0) c.if-count-gt16.false c.requires) in
-    queue_told b (search (tests, blank) depth 6)
+    let blank = c.zeros_in.ensures ∙ sym (rest_blank b c.from-count.result c.if-count-gt16.false (whole _ c.told-b)) in
+    queue_told b _ c.from-count.ensures (search (tests, blank) depth 6)
+
+pub returns-else-entries_sound : goal.returns-else-entries_sound
+returns-else-entries_sound c = queue_told c.args.b.now _ c.from-count.ensures (search (tests, first_failed) depth 6)

@@ -22,5 +22,5 @@ pub returns : goal.returns
 returns c =
     let a = c.args in
     let uid = (class_uid a.c.now a.request.operation c.requires.1).1 in
-    let said = says_by_lem a.c.now a.request _ a.instance.now _ _ _ uid (c.uid_at.ensures ∙ ap (uid_at a.c.now) c.class_part.ensures) c.field_of.ensures c.is_action.ensures c.kind_of.ensures in
+    let said = says_by_lem a.c.now a.request _ a.instance.now _ _ uid (c.uid_at.ensures ∙ ap (uid_at a.c.now) c.class_part.ensures) c.field_of.ensures c.action_of.ensures in
     (rw (← said) c.put_response.ensures.0, rw (← said) c.put_response.ensures.1)

@@ -1,4 +1,3 @@
-use Prim.Native.Nat.{◌-◌}
 use mathlib.Core.Path.{refl, sym, ◌∙◌}
 use Rattle.fields.specs.Format.{read_all}
 use Rattle.rules.specs.Bounds.{most_boxes}

@@ -1,4 +1,3 @@
-use Prim.Native.Nat.{◌-◌}
 use mathlib.Core.Path.{◌≡◌}
 use lib.ListN.{take, drop}
 use Rattle.choice.specs.Pick.{both}
@@ -14,6 +13,3 @@ abbrev pub invariant-loop-i : goal.invariant-loop-i
 invariant-loop-i l =
     every (box_sound l.boxes (numbers_in l.b)) (take l.boxes ((array most_boxes box_format).read l.b l.p))
     ≡ both l.sound (every (box_sound l.boxes (numbers_in l.b)) (drop l.i (take l.boxes ((array most_boxes box_format).read l.b l.p))))
-
-abbrev pub decreases-loop-i : goal.decreases-loop-i
-decreases-loop-i l = l.boxes - l.i

@@ -12,7 +12,7 @@ unfolding film_format name_format serial_format
 boxes_fit-requires c =
     let x = c.layout_sound in
     let most = boxes_most (film_format.read c.args.b.now c.args.p).layout (sym x.ensures ∙ c.if-not-layout_sound.false) in
-    (omega arith, omega (arith, c.box_count-count.ensures.0), c.requires.3)
+    (omega arith, omega (arith, c.box_count-count.ensures.0), c.requires.2)
 
 pub returns-then-not-name_sound : goal.returns-then-not-name_sound
 returns-then-not-name_sound c =
@@ -32,11 +32,11 @@ returns-then-b-p3-gt3 c =
 
 pub returns-then-first-lt1 : goal.returns-then-first-lt1
 returns-then-first-lt1 c =
-    film_told c.args.b.now c.args.p _ _ _ c.first_at-first.ensures.0 refl c.requires.2 (search tests depth 12)
+    film_told c.args.b.now c.args.p _ _ _ c.first_at-first.ensures.0 refl c.requires.1 (search tests depth 12)
 
 pub returns-then-serial-first : goal.returns-then-serial-first
 returns-then-serial-first c =
-    film_told c.args.b.now c.args.p _ _ _ c.first_at-first.ensures.0 c.box_count-count.ensures.0 c.requires.2
+    film_told c.args.b.now c.args.p _ _ _ c.first_at-first.ensures.0 c.box_count-count.ensures.0 c.requires.1
     (first_passes _ _ _ _ (told_is _ _ c.name_sound.ensures c.if-not-name_sound.false)
     (first_passes _ _ _ _ (told_is _ _ c.layout_sound.ensures c.if-not-layout_sound.false)
     (first_passes _ _ _ _ (le-leb _ _ c.if-b-p2-gt1.false)
@@ -46,7 +46,7 @@ returns-then-serial-first c =
 
 pub returns : goal.returns
 returns c =
-    film_told c.args.b.now c.args.p _ _ _ c.first_at-first.ensures.0 c.box_count-count.ensures.0 c.requires.2
+    film_told c.args.b.now c.args.p _ _ _ c.first_at-first.ensures.0 c.box_count-count.ensures.0 c.requires.1
     (first_passes _ _ _ _ (told_is _ _ c.name_sound.ensures c.if-not-name_sound.false)
     (first_passes _ _ _ _ (told_is _ _ c.layout_sound.ensures c.if-not-layout_sound.false)
     (first_passes _ _ _ _ (le-leb _ _ c.if-b-p2-gt1.false)

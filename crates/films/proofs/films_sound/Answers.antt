@@ -1,34 +1,32 @@
-use Prim.Native.Nat.{◌-◌}
-use mathlib.Core.Path.{refl, sym, ◌∙◌}
-use native.Mathlib.Omega.{arith}
-use Rattle.rules.specs.Sound.{film_sound}
+use Prim.Native.Nat.{ℕ}
+use mathlib.Core.Path.{◌≡◌, refl, ◌∙◌}
+use mathlib.Core.List.{List}
+use borrow.Author.Rules.{rules}
+use borrow.Author.Tests.{tests}
+use Rattle.std.proofs.iter.Serving.{serving}
+use Rattle.octets.specs.Octets.{number_at}
 use Rattle.rules.specs.Layout.{numbers_format}
+use Rattle.rules.specs.Sound.{film_sound}
 use Rattle.records.specs.Places.{numbers_in}
-use Rattle.films.proofs.Films.{film_on, film_not, film_end}
+use Rattle.distinct.proofs.Ranges.{each_lem}
+use Rattle.distinct.proofs.Steps.{films_told}
 use Rattle.films.proofs.films_sound.Goals as goal
 
-pub loop-i-init : goal.loop-i-init
-loop-i-init c = refl
-
-pub film_sound-requires : goal.film_sound-requires
+next_serial : (b : List ℕ) → number_at 5 b 41 ≡ (numbers_in b).serial
 unfolding numbers_format
-film_sound-requires c =
-    (c.requires.0, omega arith, c.next_at-serial.ensures.0, c.next_at-picture.ensures.0)
+next_serial b = refl
 
-pub returns-then-not-film_sound : goal.returns-then-not-film_sound
-returns-then-not-film_sound c =
-    let b = c.args.b.now in
-    let o = c.loop-i in
-    sym (o.invariant ∙ film_not (film_sound (numbers_in b)) b c.args.n o.i _ c.film_place.ensures.0 c.loop-i-test.true c.requires.1 c.film_sound.result c.film_sound.ensures c.if-not-film_sound.true)
+next_picture : (b : List ℕ) → number_at 5 b 46 ≡ (numbers_in b).picture
+unfolding numbers_format
+next_picture b = refl
 
-pub loop-i-preserved : goal.loop-i-preserved
-loop-i-preserved c =
-    let b = c.args.b.now in
-    let o = c.loop-i in
-    o.invariant ∙ film_on (film_sound (numbers_in b)) b c.args.n o.i _ c.film_place.ensures.0 c.loop-i-test.true c.requires.1 c.film_sound.result c.film_sound.ensures c.if-not-film_sound.false
+pub all-requires-clause-callable : goal.all-requires-clause-callable
+all-requires-clause-callable c =
+    let serial : c.next_at-serial.result ≡ (numbers_in c.args.b.now).serial = c.next_at-serial.ensures.0 ∙ next_serial c.args.b.now in
+    let picture : c.next_at-picture.result ≡ (numbers_in c.args.b.now).picture = c.next_at-picture.ensures.0 ∙ next_picture c.args.b.now in
+    grind serving
 
 pub returns : goal.returns
 returns c =
-    let b = c.args.b.now in
-    let o = c.loop-i in
-    sym (o.invariant ∙ film_end (film_sound (numbers_in b)) b c.args.n o.i c.loop-i-test.false)
+    let a = c.args in
+    films_told (each_lem (film_sound (numbers_in c.args.b.now))) a.b.now a.n c.requires 0 _ _ c.all.ensures.ran (λ x q k. search (rules, tests)) (λ x q k. search (rules, tests))

@@ -3,7 +3,7 @@ use Rattle.finding.proofs.Gathering.{Gathering}
 use Rattle.finding.proofs.gathered.Given as goal
 
 abbrev pub invariant-loop-k : goal.invariant-loop-k
-invariant-loop-k l = Gathering l.s l.scope l.tags l.n l.founds l.p l.floor l.k
+invariant-loop-k g l = Gathering l.s l.scope l.tags g.row.N l.founds l.p l.floor l.k
 
 abbrev pub decreases-loop-k : goal.decreases-loop-k
-decreases-loop-k l = (l.scope.inside.stop - l.p) + (l.n - l.k)
+decreases-loop-k g l = (l.scope.inside.stop - l.p) + (g.row.N - l.k)

@@ -1,15 +1,16 @@
 use mathlib.Core.Path.{sym, ap, ◌∙◌}
+use native.Mathlib.Omega.{arith}
 use Rattle.elements.specs.Find.{only}
 use Rattle.elements.proofs.Laws.{items_none, items_one, items_several}
 use Rattle.finding.proofs.items_in.Goals as goal
 
-pub returns-then-count-eq0 : goal.returns-then-count-eq0
-returns-then-count-eq0 c = sym (items_none _ _ (sym c.count_items-count.ensures ∙ c.if-count-eq0.true))
+pub returns-in-0 : goal.returns-in-0
+returns-in-0 c = sym (items_none _ _ (sym c.count_items.ensures ∙ c.in-0.is))
 
-pub returns-then-count-eq1 : goal.returns-then-count-eq1
-returns-then-count-eq1 c =
+pub returns-in-1 : goal.returns-in-1
+returns-in-1 c =
     c.only_list.ensures ∙ ap only c.item_head.ensures
-    ∙ sym (items_one _ _ c.requires.0 (sym c.count_items-count.ensures ∙ c.if-count-eq1.true))
+    ∙ sym (items_one _ _ c.requires.0 (sym c.count_items.ensures ∙ c.in-1.is))
 
-pub returns : goal.returns
-returns c = sym (items_several _ _ _ c.count_items-count.ensures c.if-count-eq0.false c.if-count-eq1.false)
+pub returns-in_default : goal.returns-in_default
+returns-in_default c = sym (items_several _ _ _ c.count_items.ensures (λ e. omega arith) (λ e. omega arith))

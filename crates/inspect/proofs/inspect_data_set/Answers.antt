@@ -4,9 +4,10 @@ use Prim.Native.Nat.{ℕ, ◌<◌, ◌≤◌}
 use native.Mathlib.Omega.{arith}
 use lib.ListN.{length}
 use borrow.Author.Tests.{lt-ltb, le-ltb, lt-leb, le-leb}
+use Rattle.std.specs.Prelude.{Result}
 use Rattle.headers.specs.declared.Syntax.{Syntax}
 use Rattle.headers.specs.Header.{syntax_of}
-use Rattle.elements.specs.declared.Read.{Read}
+use Rattle.elements.specs.declared.Stop.{Stop}
 use Rattle.elements.specs.Reader.{data_set}
 use Rattle.elements.specs.Passed.{headers_passed}
 use Rattle.elements.proofs.Stops.{stop_within}
@@ -26,7 +27,7 @@ module _ (s : List ℕ) (syntax : ℕ) (b : List ℕ) where
   unfolding inspected
   above h l g = rw (le-ltb _ _ h, le-leb _ _ l, lt-leb _ _ g)
 
-  reads : 12 ≤ length b → 1 ≤ syntax → syntax ≤ 2 → (x : Syntax) → x ≡ syntax_of syntax → (r : Read) → data_set s x ≡ r → inspected s syntax b ≡ told (headers_laid b (headers_passed s x)) r
+  reads : 12 ≤ length b → 1 ≤ syntax → syntax ≤ 2 → (x : Syntax) → x ≡ syntax_of syntax → (r : Result ℕ Stop) → data_set s x ≡ r → inspected s syntax b ≡ told (headers_laid b (headers_passed s x)) r
   unfolding inspected
   reads h l g x z r e = rw (le-ltb _ _ h, le-leb _ _ l, le-leb _ _ g, ← z, e)
 
@@ -42,17 +43,17 @@ returns-then-syntax-lt1 c = so (below _ _ _ c.if-reading-lt12.false c.if-syntax-
 pub returns-then-syntax-gt2 : goal.returns-then-syntax-gt2
 returns-then-syntax-gt2 c = so (above _ _ _ c.if-reading-lt12.false c.if-syntax-lt1.false c.if-syntax-gt2.true) refl refl
 
-pub returns-in-Past : goal.returns-in-Past
+pub returns-in-Ok : goal.returns-in-Ok
 unfolding headers_laid
-returns-in-Past c =
-    so (reads _ _ _ c.if-reading-lt12.false c.if-syntax-lt1.false c.if-syntax-gt2.false _ c.syntax_of.ensures _ (sym c.data_set-told.ensures.0 ∙ c.in-Past.is)) refl (rw (← c.data_set-told.ensures.1) c.put_number.ensures)
+returns-in-Ok c =
+    so (reads _ _ _ c.if-reading-lt12.false c.if-syntax-lt1.false c.if-syntax-gt2.false _ c.syntax_of.ensures _ (sym c.data_set-told.ensures.0 ∙ c.in-Ok.is)) refl (rw (← c.data_set-told.ensures.1) c.put_number.ensures)
 
 pub overflow_cast-result : goal.overflow_cast-result
 overflow_cast-result c =
-    let within = stop_within _ _ (sym c.data_set-told.ensures.0 ∙ c.in-Refused.is) in
+    let within = stop_within _ _ (sym c.data_set-told.ensures.0 ∙ c.in-Err.is) in
     omega arith
 
-pub returns-in-Refused : goal.returns-in-Refused
+pub returns-in-Err : goal.returns-in-Err
 unfolding headers_laid
-returns-in-Refused c =
-    so (reads _ _ _ c.if-reading-lt12.false c.if-syntax-lt1.false c.if-syntax-gt2.false _ c.syntax_of.ensures _ (sym c.data_set-told.ensures.0 ∙ c.in-Refused.is)) refl (rw (← c.data_set-told.ensures.1, ← c.put_number.ensures) c.put_stop.ensures)
+returns-in-Err c =
+    so (reads _ _ _ c.if-reading-lt12.false c.if-syntax-lt1.false c.if-syntax-gt2.false _ c.syntax_of.ensures _ (sym c.data_set-told.ensures.0 ∙ c.in-Err.is)) refl (rw (← c.data_set-told.ensures.1, ← c.put_number.ensures) c.put_stop.ensures)

@@ -1,4 +1,3 @@
-use Prim.Native.Nat.{◌+◌, ◌-◌, ◌*◌, ◌≤◌}
 use mathlib.Core.Path.{◌≡◌}
 use lib.ListN.{length, take}
 use Rattle.rules.specs.Lists.{filled_to}
@@ -6,7 +5,4 @@ use Rattle.rules.specs.Values.{numbers_in}
 use Rattle.layouts.proofs.listed_counts.Given as goal
 
 abbrev pub invariant-loop-i : goal.invariant-loop-i
-invariant-loop-i l = (2 * l.i ≤ length l.s + 1) × (length l.counts ≡ 6) × (l.counts ≡ filled_to 6 0 (take l.i (numbers_in l.s)))
-
-abbrev pub decreases-loop-i : goal.decreases-loop-i
-decreases-loop-i l = length l.s - 2 * l.i
+invariant-loop-i l = (length l.counts ≡ 6) × (l.counts ≡ filled_to 6 0 (take l.i (numbers_in l.s)))

@@ -1,20 +1,23 @@
-use Prim.Native.Nat.{◌-◌}
+use mathlib.Core.Path.{◌≡◌, ap, ◌∙◌}
 use native.Mathlib.Omega.{arith}
-use Rattle.layouts.proofs.Sums.{sum_start, sum_turn, sum_done, sum_end, sum_all}
+use lib.ListN.{length, length-take}
+use Rattle.rules.specs.Lists.{sum}
+use Rattle.layouts.proofs.Sums.{sum_turn, sum_done}
 use borrow.Author.Rules.{rules}
 use Rattle.layouts.proofs.sum_of.Goals as goal
 
-pub loop-i-init : goal.loop-i-init
-loop-i-init c = (search rules, search rules, search rules, sum_start _)
+pub overflow_add-v : goal.overflow_add-v
+overflow_add-v c =
+    let m : length c.args.a ≡ 6 = search rules in
+    omega (arith, m, ap length c.front-x-items.ensures, length-take c.args.n c.args.a, c.type_inv.x-items c.loop-x.x-index, c.from-v.ensures)
 
-pub returns-then-n-i : goal.returns-then-n-i
-returns-then-n-i c = let o = c.loop-i in
-    (sum_done _ _ _ o.invariant.3 (sum_end _ _ o.i c.if-n-i.true), search rules)
-
-pub loop-i-preserved : goal.loop-i-preserved
-loop-i-preserved c = let o = c.loop-i in
-    (search rules, search rules, search rules, sum_turn _ _ o.i o.v _ (omega (arith, o.invariant.0, c.loop-i-test.true)) c.if-n-i.false c.wide-v.ensures.0 o.invariant.3)
+pub loop-x-preserved : goal.loop-x-preserved
+loop-x-preserved c =
+    let o = c.loop-x in
+    (omega (arith, c.type_inv.x-items o.x-index, c.from-v.ensures), rw c.from-v.ensures (sum_turn _ o.x-index o.v c.loop-x-test.true o.invariant.1))
 
 pub returns : goal.returns
-returns c = let o = c.loop-i in
-    (sum_done _ _ _ o.invariant.3 (sum_all c.args.a c.args.n o.i (omega (arith, o.invariant.0, c.loop-i-test.false))), search rules)
+returns c =
+    let o = c.loop-x in
+    let m : length c.args.a ≡ 6 = search rules in
+    (sum_done _ o.x-index o.v c.loop-x-test.false o.invariant.1 ∙ ap sum c.front-x-items.ensures, omega (arith, m, ap length c.front-x-items.ensures, length-take c.args.n c.args.a))

@@ -1,10 +1,9 @@
-use Prim.Native.Nat.{◌+◌, ◌-◌, ◌<◌, ◌≤◌, ◌^◌}
-use mathlib.Core.Path.{◌≡◌}
+use Rattle.std.proofs.Common.{◌≡◌, ◌+◌, ◌-◌, ◌<◌, ◌≤◌, ◌^◌, length, take, drop}
 use Rattle.octets.specs.Octets.{number_at}
 use Rattle.octets.proofs.number_at.Given as goal
 
-abbrev pub invariant-loop-i : goal.invariant-loop-i
-invariant-loop-i l = (l.i ≤ l.width) × (l.v ≡ number_at (l.width - l.i) l.s (l.at + l.i)) × (l.v < 256 ^ (l.width - l.i))
-
-abbrev pub decreases-loop-i : goal.decreases-loop-i
-decreases-loop-i l = l.i
+abbrev pub invariant-loop-b : goal.invariant-loop-b
+invariant-loop-b l =
+    let before = l.b-iterator.iter.rest.now in
+    let n = length before in
+    (n ≤ l.width) × (before ≡ take n (drop l.at l.s)) × (l.v ≡ number_at (l.width - n) l.s (l.at + n)) × (l.v < 256 ^ (l.width - n))

@@ -1,19 +1,17 @@
-use Prim.Native.Nat.{◌-◌}
-use mathlib.Core.Path.{refl}
-use native.Mathlib.Numerals.{unary_clauses}
+use native.Mathlib.Omega.{arith}
+use Rattle.octets.proofs.Parts.{part_length}
 use Rattle.octets.proofs.Turns.{octets_turn, octets_done}
-use borrow.Author.Rules.{rules}
 use Rattle.octets.proofs.put_number.Goals as goal
 
-pub loop-i-init : goal.loop-i-init
-loop-i-init c = (search rules, refl, simp unary_clauses)
-
-pub loop-i-preserved : goal.loop-i-preserved
-loop-i-preserved c = let o = c.loop-i in
+pub loop-b-preserved : goal.loop-b-preserved
+loop-b-preserved c =
+    let o = c.loop-b in
     let a = c.args in
-    (search rules, search rules, octets_turn a.s.now o.s a.at a.width a.x o.v o.i c.low.result c.loop-i-test.true (search rules) c.low.ensures o.invariant.2)
+    let n = part_length a.s.now a.at a.width c.requires in
+    octets_turn o.b-items a.width a.x o.v o.b-index (omega arith) (omega arith) o.invariant
 
 pub returns : goal.returns
-returns c = let o = c.loop-i in
+returns c =
+    let o = c.loop-b in
     let a = c.args in
-    octets_done a.s.now o.s a.at a.width a.x o.v o.i c.loop-i-test.false o.invariant.2
+    octets_done a.s.now o.b-items a.at a.width a.x o.v o.b-index c.requires o.auto.b-items c.loop-b-test.false o.invariant

@@ -5,5 +5,5 @@ use Rattle.opening.proofs.put_closed.Goals as goal
 
 pub returns : goal.returns
 returns c =
-    let bytes : Bytes c.args.records.now = λ i. omega (arith, c.slice_known-1.given i) in
-    closed_written c.args.records.now c.requires bytes _ c.put_zeros.ensures _ c.put_zeros-2.ensures
+    let bytes : Bytes c.args.records.now = c.fits-records in
+    closed_written c.args.records.now (omega (arith, c.told-records)) bytes _ c.put_zeros.ensures _ c.put_zeros-2.ensures

@@ -8,5 +8,5 @@ use Rattle.opening.proofs.put_open.Goals as goal
 pub returns : goal.returns
 unfolding opened
 returns c =
-    let bytes : Bytes c.args.records.now = λ i. omega (arith, c.slice_known-1.given i) in
-    c.put_no_input.ensures ∙ rw c.put_opened.ensures (open_written c.args.records.now c.requires.0 bytes _)
+    let bytes : Bytes c.args.records.now = c.fits-records in
+    c.put_no_input.ensures ∙ rw c.put.ensures (open_written c.args.records.now (omega (arith, c.told-records)) bytes _)

@@ -3,5 +3,4 @@ use Rattle.printing.proofs.entry_of.Goals as goal
 
 pub returns : goal.returns
 unfolding entry_of
-returns c =
-    simp (c.copies_at-copies.ensures, c.pictures_of-pictures.ensures, c.places.ensures.1)
+returns c = simp (c.from.ensures, c.copies_at.ensures, c.pictures_of.ensures, c.boxes_of.ensures)

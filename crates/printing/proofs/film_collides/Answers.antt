@@ -3,4 +3,4 @@ use Rattle.printing.proofs.Positions.{collide}
 use Rattle.printing.proofs.film_collides.Goals as goal
 
 pub returns : goal.returns
-returns c = c.boxes_collide.ensures ∙ ap collide c.places.ensures.1
+returns c = c.boxes_collide.ensures ∙ ap collide c.boxes_of.ensures

@@ -3,10 +3,7 @@ use Rattle.rules.specs.Effects.{printed}
 use Rattle.printing.proofs.printed_session.Goals as goal
 
 pub printed_films-requires : goal.printed_films-requires
-printed_films-requires c =
-    let e = c.film_count-count.ensures in
-    (c.requires.1, omega (arith, e.0), omega (arith, c.requires.2, e.2, ap length c.requires.0))
+printed_films-requires c = (c.requires.1, omega (arith, c.requires.2, ap length c.films_of.ensures, ap length c.requires.0))
 
 pub returns : goal.returns
-returns c =
-    c.printed_films.ensures ∙ ap (printed c.args.k) (c.film_count-count.ensures.1 ∙ sym c.requires.0)
+returns c = c.printed_films.ensures ∙ ap (printed c.args.k) (c.films_of.ensures ∙ sym c.requires.0)

@@ -12,6 +12,3 @@ invariant-loop-i l =
     × (l.p ≤ l.at + 98 * l.i)
     × (laid l.initial.out l.at (boxes_bytes l.syntax l.root l.first l.count) ≡ laid l.out l.p (boxes_bytes l.syntax l.root (l.first + l.i) (l.count - l.i)))
     × (l.at + length (boxes_bytes l.syntax l.root l.first l.count) ≡ l.p + length (boxes_bytes l.syntax l.root (l.first + l.i) (l.count - l.i)))
-
-abbrev pub decreases-loop-i : goal.decreases-loop-i
-decreases-loop-i l = l.count - l.i

@@ -4,7 +4,7 @@ use Rattle.responses.proofs.put_report.Goals as goal
 pub returns : goal.returns
 returns c =
     let a = c.args in
-    report_laid a.status a.command a.size a.kind a.first a.second a.third a.out.now _ _ _ _ _ _ _ c.requires
+    report_laid a.status a.command a.size a.note.kind a.note.first a.note.second a.note.third a.out.now _ _ _ _ _ _ _ c.requires
     c.put_number.ensures
     c.put_number-2.ensures
     c.put_number-3.ensures

@@ -21,10 +21,10 @@ returns c =
     let instanceBytes = uid_bytes 0x0000_1000 a.instance.now in
     let l = number_size 0x0000_0800 (data_set_type (data_shown a.with_data)) in
     let k = number_size 0x0000_0900 a.status in
-    let m = action_size a.acts a.kind in (
-      laid_next a.out.now shown.new.out _ shownBytes (statusBytes ++ (instanceBytes ++ action_bytes a.acts a.kind)) a.at shown.result (omega arith) (omega arith)
+    let m = action_size a.action in (
+      laid_next a.out.now shown.new.out _ shownBytes (statusBytes ++ (instanceBytes ++ action_bytes a.action)) a.at shown.result (omega arith) (omega arith)
           (rw c.data_set_type.ensures at shown.ensures.0)
-          (laid_next_two shown.new.out _ _ _ statusBytes instanceBytes (action_bytes a.acts a.kind) shown.result status.result instance.result (omega arith) (omega arith) instance.ensures.1
+          (laid_next_two shown.new.out _ _ _ statusBytes instanceBytes (action_bytes a.action) shown.result status.result instance.result (omega arith) (omega arith) instance.ensures.1
           status.ensures.0 instance.ensures.0 action.ensures.0),
       simp length-append (omega arith),
       omega arith,

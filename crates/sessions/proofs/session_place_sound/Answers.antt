@@ -10,7 +10,7 @@ returns-then-live-gt1 c = simp (lt-leb _ 1 c.if-live-gt1.true)
 pub returns-then-live-eq0 : goal.returns-then-live-eq0
 unfolding session_format
 returns-then-live-eq0 c =
-    let clear = blank_told c.args.b.now c.args.p c.requires.1 c.zeros_in.ensures in
+    let clear = blank_told c.args.b.now c.args.p c.requires c.zeros_in.ensures in
     simp (le-leb _ 1 c.if-live-gt1.false, eq-eqb _ _ c.if-live-eq0.true, ← clear)
 
 pub returns : goal.returns

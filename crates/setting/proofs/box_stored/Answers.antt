@@ -14,7 +14,7 @@ number_used-number-requires c =
     let k = core_in a.b.now in
     let l = listing_of a.d.now a.syntax in
     let told = fill_by a.d.now a.syntax a.found.image c.is_fill-fills.result p.5.image.0 c.is_fill-fills.ensures in
-    (p.0.0, subst (λ (fills : Bool). PictureLeft k fills) told (picture_left k a.i l p.0.1.0 p.1 p.3))
+    subst (λ (fills : Bool). PictureLeft k fills) told (picture_left k a.i l p.0.1.0 p.1 p.3)
 
 pub box_anew-image_box-requires : goal.box_anew-image_box-requires
 box_anew-image_box-requires c =
@@ -22,7 +22,7 @@ box_anew-image_box-requires c =
     let p = c.requires in
     let k = core_in a.b.now in
     let l = listing_of a.d.now a.syntax in
-    (p.0.0, p.0.1.0, p.1, omega (arith, boxes_few k a.i p.0.1.0 p.1, p.2), position_small k a.i l p.0.1.0 p.1 p.3, p.5)
+    (p.0.1.0, p.1, omega (arith, boxes_few k a.i p.0.1.0 p.1, p.2), position_small k a.i l p.0.1.0 p.1 p.3, p.5)
 
 pub image_note-note-requires : goal.image_note-note-requires
 image_note-note-requires c =

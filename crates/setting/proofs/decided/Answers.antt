@@ -1,31 +1,27 @@
-use mathlib.Core.Path.{refl, ap, subst, ◌∙◌}
-use Rattle.rules.specs.declared.Instance.TheVariants.{Nobody}
-use Rattle.rules.specs.Attributes.{listing_of}
+use Prim.Native.Nat.{ℕ}
+use mathlib.Core.Path.{ap, subst, ◌∙◌}
+use mathlib.Core.List.{List}
+use Rattle.rules.specs.declared.Request.{Request}
 use Rattle.rules.specs.Checks.{quietly, set_plan}
 use Rattle.records.specs.Places.{core_in}
 use Rattle.instances.specs.There.{There}
-use Rattle.setting.proofs.Laws.{own_kept}
 use Rattle.setting.proofs.decided.Goals as goal
 
 pub film_decided-requires : goal.film_decided-requires
 film_decided-requires c =
-    (c.requires.0, c.requires.1, subst (There (core_in c.args.b.now)) c.in-TheFilm.is c.requires.2)
+    (c.requires.0, subst (There (core_in c.args.b.now)) c.in-TheFilm.is c.requires.1)
 
 pub box_decided-requires : goal.box_decided-requires
 box_decided-requires c =
-    let t = subst (There (core_in c.args.b.now)) c.in-TheBox.is c.requires.2 in
-    (c.requires.0, c.requires.1, t.0, t.1, c.requires.3)
+    let t = subst (There (core_in c.args.b.now)) c.in-TheBox.is c.requires.1 in
+    (c.requires.0, t.0, t.1, c.requires.2)
 
 pub returns-in-Nobody : goal.returns-in-Nobody
 unfolding set_plan
 returns-in-Nobody c =
-    let a = c.args in
-    let k = core_in a.b.now in
-    let quiet = c.quiet.ensures k in (
-      rw c.in-Nobody.is
-          (own_kept a.c.now a.request k Nobody a.name (listing_of a.d.now a.syntax) 0 refl _ refl (quiet.0 ∙ ap (quietly k) c.no_name.ensures)),
-      quiet.1,
-    )
+    let k = core_in c.args.b.now in
+    let quiet = c.quiet.ensures k in
+    λ (command : List ℕ) (r : Request). (quiet.0 ∙ rw c.in-Nobody.is (ap (quietly k) c.no_name.ensures), quiet.1)
 
 pub returns-in-TheSession : goal.returns-in-TheSession
 returns-in-TheSession c = rw c.in-TheSession.is c.session_decided.ensures

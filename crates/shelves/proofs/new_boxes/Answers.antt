@@ -1,4 +1,3 @@
-use Prim.Native.Nat.{◌-◌}
 use mathlib.Core.Path.{◌≡◌}
 use native.Mathlib.Omega.{arith}
 use Rattle.rules.specs.Bounds.{most_boxes}
@@ -11,11 +10,14 @@ use Rattle.shelves.proofs.new_boxes.Goals as goal
 
 pub loop-i-init : goal.loop-i-init
 unfolding from
-loop-i-init c = (search rules, simp c.no_box-boxes.ensures)
+loop-i-init c = simp c.no_box-boxes.ensures
 
 pub loop-i-preserved : goal.loop-i-preserved
-loop-i-preserved c = let o = c.loop-i in
-    (search rules, rw o.invariant.1 (counted_more most_boxes no_box new_box 1 o.i (search rules)))
+loop-i-preserved c =
+    let o = c.loop-i in
+    rw (o.invariant, c.no_box.ensures) (counted_more most_boxes no_box new_box 1 o.i (search rules))
 
 pub returns : goal.returns
-returns c = let e : c.loop-i.i ≡ c.args.count = omega arith in rw (← e) c.loop-i.invariant.1
+returns c =
+    let e : c.loop-i.i ≡ c.args.count = omega arith in
+    rw (← e) c.loop-i.invariant

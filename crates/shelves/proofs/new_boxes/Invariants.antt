@@ -1,4 +1,3 @@
-use Prim.Native.Nat.{◌≤◌, ◌-◌}
 use mathlib.Core.Path.{◌≡◌}
 use mathlib.Core.List.{map}
 use Rattle.rules.specs.Bounds.{most_boxes}
@@ -8,7 +7,4 @@ use Rattle.rules.specs.Effects.{new_box}
 use Rattle.shelves.proofs.new_boxes.Given as goal
 
 abbrev pub invariant-loop-i : goal.invariant-loop-i
-invariant-loop-i l = (l.i ≤ l.count) × (l.boxes ≡ filled_to most_boxes no_box (map new_box (from 1 l.i)))
-
-abbrev pub decreases-loop-i : goal.decreases-loop-i
-decreases-loop-i l = l.count - l.i
+invariant-loop-i l = l.boxes ≡ filled_to most_boxes no_box (map new_box (from 1 l.i))

@@ -8,4 +8,4 @@ use Rattle.soundness.proofs.held_readable.Goals as goal
 pub returns : goal.returns
 returns c =
     let e = c.u16_at-stop.ensures.0 in
-    c.is_readable.ensures ∙ ap readable (c.understood.ensures ∙ ap understood (held c.args.b.now c.requires.0 e (omega (arith, e, c.requires.1))))
+    c.is_readable.ensures ∙ ap readable (c.understood.ensures ∙ ap understood (held c.args.b.now (omega (arith, c.type_inv.b)) e (omega (arith, e, c.requires))))

@@ -1,11 +1,17 @@
-use Rattle.soundness.proofs.Records.{records_short, records_unsound, records_right}
+use mathlib.Core.Path.{sym, ◌∙◌}
+use native.Mathlib.Omega.{arith}
+use borrow.Author.Tests.{le-leb, le-ltb}
+use Rattle.soundness.proofs.Refused.{front_sound}
 use Rattle.soundness.proofs.refusal.Goals as goal
 
-pub returns-then-bytes-lt-RECORDS : goal.returns-then-bytes-lt-RECORDS
-returns-then-bytes-lt-RECORDS c = records_short c.args.bytes.now c.if-bytes-lt-RECORDS.true
+pub returns-in-Some : goal.returns-in-Some
+returns-in-Some c =
+    let front = c.in-Some.ensures.cases in
+    let told = sym (front_sound _ _ (λ i. omega (arith, c.type_inv.bytes i)) front.enough front.same _ c.state_sound.ensures) ∙ c.if-state_sound.true in
+    simp (told, le-leb _ _ front.enough, le-ltb _ _ front.enough)
 
-pub returns-then-not-state_sound : goal.returns-then-not-state_sound
-returns-then-not-state_sound c = records_unsound c.args.bytes.now _ c.state_sound.ensures c.if-bytes-lt-RECORDS.false c.if-not-state_sound.true
-
-pub returns : goal.returns
-returns c = records_right c.args.bytes.now _ c.state_sound.ensures c.if-bytes-lt-RECORDS.false c.if-not-state_sound.false
+pub returns-in-Some-2 : goal.returns-in-Some-2
+returns-in-Some-2 c =
+    let front = c.in-Some.ensures.cases in
+    let told = sym (front_sound _ _ (λ i. omega (arith, c.type_inv.bytes i)) front.enough front.same _ c.state_sound.ensures) ∙ c.if-state_sound.false in
+    simp (told, le-leb _ _ front.enough)

@@ -1,23 +1,23 @@
 use borrow.Author.Tests.{eq-eqb, ne_eqb}
+use Rattle.choice.proofs.Picks.{nots}
 use Rattle.tags.specs.Table.{differs}
+use Rattle.tags.proofs.Entries.{given_none, given_some}
 use Rattle.syntaxes.proofs.vr_differs.Goals as goal
+use Rattle.syntaxes.proofs.vr_differs.Goals.{then-tag-eq2145386512, else-tag-eq2145386512}
 
-pub returns-then-named-eq0 : goal.returns-then-named-eq0
+pub returns-in_default : goal.returns-in_default
 unfolding differs
-returns-then-named-eq0 c = simp (← c.named_vr-named.ensures, eq-eqb _ _ c.if-named-eq0.true)
+returns-in_default c = simp (given_none _ c.in_default.ensures)
 
-pub returns-then-named-vr : goal.returns-then-named-vr
+pub returns-after-tag-eq2145386512 : goal.returns-after-tag-eq2145386512
 unfolding differs
-returns-then-named-vr c = simp (← c.named_vr-named.ensures, ne_eqb _ _ c.if-named-eq0.false, eq-eqb _ _ c.if-named-vr.true)
+returns-after-tag-eq2145386512 c =
+    let named = given_some _ c.in-Some.ensures in
+    elim c.if-tag-eq2145386512.branch [
+      | then-tag-eq2145386512 w ↦ simp (nots, named.0, ne_eqb _ _ named.1, ne_eqb _ _ c.if-named-vr.true, eq-eqb _ _ w.if-tag-eq2145386512.true, w.result-is)
+      | else-tag-eq2145386512 w ↦ simp (named.0, ne_eqb _ _ named.1, ne_eqb _ _ c.if-named-vr.true, ne_eqb _ _ w.if-tag-eq2145386512.false, w.result-is)
+    ]
 
-pub returns-then-tag-ne2145386512 : goal.returns-then-tag-ne2145386512
+pub returns-else-named-vr : goal.returns-else-named-vr
 unfolding differs
-returns-then-tag-ne2145386512 c = simp (← c.named_vr-named.ensures, ne_eqb _ _ c.if-named-eq0.false, ne_eqb _ _ c.if-named-vr.false, ne_eqb _ _ c.if-tag-ne2145386512.true)
-
-pub returns-then-vr : goal.returns-then-vr
-unfolding differs
-returns-then-vr c = simp (← c.named_vr-named.ensures, ne_eqb _ _ c.if-named-eq0.false, ne_eqb _ _ c.if-named-vr.false, eq-eqb _ _ c.if-tag-ne2145386512.false, eq-eqb _ _ c.if-vr.true)
-
-pub returns : goal.returns
-unfolding differs
-returns c = simp (← c.named_vr-named.ensures, ne_eqb _ _ c.if-named-eq0.false, ne_eqb _ _ c.if-named-vr.false, eq-eqb _ _ c.if-tag-ne2145386512.false, ne_eqb _ _ c.if-vr.false)
+returns-else-named-vr c = let named = given_some _ c.in-Some.ensures in simp (named.0, ne_eqb _ _ named.1, eq-eqb _ _ c.if-named-vr.false)

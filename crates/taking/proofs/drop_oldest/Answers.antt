@@ -10,14 +10,14 @@ use Rattle.taking.proofs.drop_oldest.Goals as goal
 pub overflow_sub-count : goal.overflow_sub-count
 unfolding queue_format
 overflow_sub-count c =
-    let some : 1 ≤ get_or c.args.records.now queue_place 0 = c.requires.2 in
+    let some : 1 ≤ get_or c.args.records.now queue_place 0 = c.requires.1 in
     omega (arith, some)
 
 pub returns : goal.returns
 unfolding queue_format
 returns c =
-    let bytes : Bytes c.args.records.now = λ i. omega (arith, c.slice_known-1.given i) in
-    left_written c.args.records.now bytes c.requires.0 c.requires.1 c.requires.2 c.requires.3 _ _ _
+    let bytes : Bytes c.args.records.now = c.fits-records in
+    left_written c.args.records.now bytes (omega (arith, c.told-records)) c.requires.0 c.requires.1 c.requires.2 _ _ _
     c.put_byte.ensures
     c.move_down.ensures
     c.put.ensures

@@ -6,14 +6,14 @@ use Rattle.taking.proofs.put_oldest.Goals as goal
 
 pub overflow_cast-records : goal.overflow_cast-records
 overflow_cast-records c =
-    let bytes : Bytes c.args.records.now = λ i. omega (arith, c.shared_slice_known-1.given i) in
+    let bytes : Bytes c.args.records.now = c.fits-records in
     omega (arith, bytes 2740)
 
 pub returns : goal.returns
 unfolding entry_format picture_format
 returns c =
-    let bytes : Bytes c.args.records.now = λ i. omega (arith, c.shared_slice_known-1.given i) in
-    entry_laid c.args.records.now bytes c.requires.1 _ _ _ _ _ c.requires.0
+    let bytes : Bytes c.args.records.now = c.fits-records in
+    entry_laid c.args.records.now bytes (omega (arith, c.told-records)) _ _ _ _ _ c.requires.0
     c.put.ensures
     c.put_number.ensures
     c.uid_filled-uid.ensures

@@ -7,8 +7,8 @@ returns-then-room-lt-TAKEN c = simp (lt-ltb _ _ c.if-room-lt-TAKEN.true)
 
 pub returns-then-records-eq0 : goal.returns-then-records-eq0
 returns-then-records-eq0 c =
-    simp (le-ltb _ _ c.if-room-lt-TAKEN.false, entries_counted _ c.requires.1, eq-eqb _ _ c.if-records-eq0.true)
+    simp (le-ltb _ _ c.if-room-lt-TAKEN.false, entries_counted _ c.requires, eq-eqb _ _ c.if-records-eq0.true)
 
 pub returns : goal.returns
 returns c =
-    simp (le-ltb _ _ c.if-room-lt-TAKEN.false, entries_counted _ c.requires.1, ne_eqb _ _ c.if-records-eq0.false)
+    simp (le-ltb _ _ c.if-room-lt-TAKEN.false, entries_counted _ c.requires, ne_eqb _ _ c.if-records-eq0.false)

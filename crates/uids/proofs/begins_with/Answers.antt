@@ -1,16 +1,19 @@
 use mathlib.Core.Path.{sym}
-use native.Mathlib.Numerals.{unary_clauses}
+use borrow.Author.Tests.{le-ltb}
+use Rattle.std.proofs.Common.{rules}
 use Rattle.uids.specs.Uids.{begins_with}
 use Rattle.uids.proofs.Turns.{too_short}
 use Rattle.uids.proofs.begins_with.Goals as goal
+use Rattle.uids.proofs.begins_with.Goals.{then-n-uid, else-n-uid}
 
-pub returns-then-uid-n : goal.returns-then-uid-n
-returns-then-uid-n c = sym (too_short _ _ c.if-uid-n.true)
-
-pub returns-then-not-same_bytes : goal.returns-then-not-same_bytes
+pub returns-then-same_bytes : goal.returns-then-same_bytes
 unfolding begins_with
-returns-then-not-same_bytes c = let e = simp unary_clauses at c.same_bytes.ensures in simp (← e, c.if-not-same_bytes.true)
+returns-then-same_bytes c = search rules
 
-pub returns : goal.returns
+pub returns-else-same_bytes : goal.returns-else-same_bytes
 unfolding begins_with
-returns c = let e = simp unary_clauses at c.same_bytes.ensures in simp (← e, c.if-not-same_bytes.false)
+returns-else-same_bytes c =
+    elim c.if-n-uid.branch [
+      | then-n-uid w ↦ search rules
+      | else-n-uid w ↦ rw (w.value-is, le-ltb _ _ w.if-n-uid.false) (sym (too_short _ _ w.if-n-uid.false))
+    ]

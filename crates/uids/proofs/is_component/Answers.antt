@@ -1,22 +1,15 @@
-use lib.Dec.{eqb}
-use lib.ListN.{get_or}
-use borrow.Author.Tests.{eq-eqb, ne_eqb}
+use Rattle.std.proofs.Common.{rules}
 use Rattle.uids.specs.Uids.{component}
-use Rattle.choice.proofs.Picks.{nots}
 use Rattle.uids.proofs.is_component.Goals as goal
 
-pub returns-then-n-eq0 : goal.returns-then-n-eq0
+pub returns-then-s-eq1 : goal.returns-then-s-eq1
 unfolding component
-returns-then-n-eq0 c = simp (eq-eqb _ _ c.if-n-eq0.true)
+returns-then-s-eq1 c = search rules
 
-pub returns-then-not-all_digits : goal.returns-then-not-all_digits
+pub returns-else-s-eq1 : goal.returns-else-s-eq1
 unfolding component
-returns-then-not-all_digits c = simp (ne_eqb _ _ c.if-n-eq0.false, ← c.all_digits.ensures, c.if-not-all_digits.true)
+returns-else-s-eq1 c = search rules
 
-pub returns-then-n-eq1 : goal.returns-then-n-eq1
+pub returns-else-all_digits : goal.returns-else-all_digits
 unfolding component
-returns-then-n-eq1 c = simp (ne_eqb _ _ c.if-n-eq0.false, ← c.all_digits.ensures, c.if-not-all_digits.false, eq-eqb _ _ c.if-n-eq1.true)
-
-pub returns : goal.returns
-unfolding component
-returns c = simp (ne_eqb _ _ c.if-n-eq0.false, ← c.all_digits.ensures, c.if-not-all_digits.false, ne_eqb _ _ c.if-n-eq1.false) (nots (eqb (get_or c.args.s.now 0 0) 48))
+returns-else-all_digits c = search rules

@@ -1,4 +1,4 @@
-use Prim.Native.Nat.{◌-◌, ◌≤◌}
+use Prim.Native.Nat.{◌≤◌}
 use mathlib.Core.Path.{◌≡◌}
 use mathlib.Core.List.{[]}
 use lib.ListN.{drop}
@@ -7,7 +7,4 @@ use Rattle.uids.specs.Uids.{components}
 use Rattle.uids.proofs.is_uid.Given as goal
 
 abbrev pub invariant-loop-i : goal.invariant-loop-i
-invariant-loop-i l = (l.from ≤ l.i) × (l.i ≤ l.n) × (components [] l.s ≡ components (part l.s l.from l.i) (drop l.i l.s))
-
-abbrev pub decreases-loop-i : goal.decreases-loop-i
-decreases-loop-i l = l.n - l.i
+invariant-loop-i l = (l.from ≤ l.i) × (components [] l.s ≡ components (part l.s l.from l.i) (drop l.i l.s))

@@ -1,7 +1,0 @@
-use Rattle.rules.specs.Layout.{entry_format}
-use Rattle.rules.proofs.Sizes.{picture_size_lem}
-use Rattle.records.proofs.entry_at.Goals as goal
-
-pub returns : goal.returns
-unfolding entry_format
-returns c = simp (picture_size_lem, c.name_at-film.ensures, c.u16_at-ticket.ensures, c.pictures_at-pictures.ensures)

@@ -1,6 +1,0 @@
-use Rattle.rules.specs.Layout.{numbers_format}
-use Rattle.records.proofs.numbers_at.Goals as goal
-
-pub returns : goal.returns
-unfolding numbers_format
-returns c = simp (c.u16_at-ticket.ensures, c.number_at-picture.ensures.0, c.number_at-serial.ensures.0, c.bytes40_at-root.ensures)

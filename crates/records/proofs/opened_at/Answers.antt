@@ -1,6 +1,0 @@
-use Rattle.rules.specs.Layout.{opened_format}
-use Rattle.records.proofs.opened_at.Goals as goal
-
-pub returns : goal.returns
-unfolding opened_format
-returns c = simp c.u32_at-room.ensures

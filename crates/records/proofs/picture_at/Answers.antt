@@ -1,6 +1,0 @@
-use Rattle.rules.specs.Layout.{picture_format}
-use Rattle.records.proofs.picture_at.Goals as goal
-
-pub returns : goal.returns
-unfolding picture_format
-returns c = simp c.u32_at.ensures

@@ -1,7 +1,0 @@
-use Rattle.rules.specs.Layout.{session_format}
-use Rattle.rules.proofs.Sizes.{name_size_lem}
-use Rattle.records.proofs.session_at.Goals as goal
-
-pub returns : goal.returns
-unfolding session_format
-returns c = simp (name_size_lem, c.bytes64_at-label.ensures, c.name_at-name.ensures)

@@ -1,4 +1,0 @@
-use Rattle.shelves.proofs.no_entry.Goals as goal
-
-pub returns : goal.returns
-returns c = simp c.no_name.ensures
