@@ -1,12 +1,13 @@
 -- Two lists of bytes are the same exactly where they are equal; they are compared from the last byte back, and part by part.
 -- Assumes nothing.
-use Prim.Native.Nat.{ℕ, suc}
+use Prim.Native.Nat.{ℕ, suc, ◌-◌, ◌<◌, ◌≤◌}
 use mathlib.Core.Path.{◌≡◌, refl, sym, ap, ◌∙◌}
 use mathlib.Core.Bool.{Bool, true, false}
 use mathlib.Core.List.{List, [], ◌∷◌, ◌++◌}
 use native.Mathlib.Omega.{arith}
 use lib.Dec.{eqb}
-use lib.ListN.{length, get_or}
+use lib.ListN.{length, get_or, take}
+use lib.Seq.{take-suc}
 use borrow.Author.Tests.{eqb-true, eq-eqb}
 use Rattle.std.specs.Prelude.{◌↔◌, IsTrue, EachIndex, slice_index}
 use Rattle.std.specs.Cmp.{both_ways}
@@ -39,6 +40,11 @@ same_last (w ∷ a) [] x y = rw (none a x, both_fails (eqb w y), both_fails (eqb
     none [] x = refl
     none (w ∷ a) x = refl
 same_last (w ∷ a) (z ∷ b) x y = rw (same_last a b x y) (both_swap (eqb w z) (eqb x y) (same a b))
+
+pub same_back : (s b : List ℕ) (i y : ℕ) → 0 < i → i ≤ length s → same (take i s) (b ++ (y ∷ [])) ≡ both (eqb (get_or s (i - 1) 0) y) (same (take (i - 1) s) b)
+same_back s b i y p h =
+    let k : i ≡ suc (i - 1) = omega arith in
+    ap (λ (n : ℕ). same (take n s) (b ++ (y ∷ []))) k ∙ rw (take-suc s (i - 1) 0 (omega arith)) (same_last (take (i - 1) s) b _ y)
 
 -- front and rest are compared apart
 pub same_parts : (a b c d : List ℕ) → length a ≡ length c → same (a ++ b) (c ++ d) ≡ both (same a c) (same b d)
