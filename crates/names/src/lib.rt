@@ -43,8 +43,8 @@ pub fn next_at(b: &[u8], at: usize) -> u64
 }
 
 // A sent UID.
-fn sent_sound(b: &Records, p: usize) -> bool
-    requires { p + name_size ≤ length b.now }
+fn sent_sound(b: &[u8], p: usize) -> bool
+    requires { (numbers_size ≤ length b.now) × (p + name_size ≤ length b.now) }
     ensures { result ≡ sent_sound (numbers_in b.now) (name_format.read b.now p) }
 {
     let used = usize::from(b[p + SERIAL]);
@@ -59,8 +59,8 @@ fn sent_sound(b: &Records, p: usize) -> bool
 }
 
 // A made UID has a serial below the next, and no characters.
-pub fn name_sound(b: &Records, p: usize) -> bool
-    requires { p + name_size ≤ length b.now }
+pub fn name_sound(b: &[u8], p: usize) -> bool
+    requires { (numbers_size ≤ length b.now) × (p + name_size ≤ length b.now) }
     ensures { result ≡ name_sound (numbers_in b.now) (name_format.read b.now p) }
 {
     let made = octets::u32_at(b, p) as u64;

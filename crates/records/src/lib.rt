@@ -102,7 +102,8 @@ pub const TAKEN_UID: usize = TAKEN_COPIES + 2;
 pub const TAKEN: usize = TAKEN_UID + TEXT;
 
 // The root's characters.
-pub fn root_in(b: &Records) -> &[u8]
+pub fn root_in(b: &[u8]) -> &[u8]
+    requires { numbers_size ≤ length b.now }
     ensures { result.now ≡ root_of (numbers_in b.now) }
 {
     octets::front(&b[1..AT_SERIAL], b[0] as usize)

@@ -17,7 +17,7 @@ use Rattle.names.proofs.sent_sound.Goals.{then-is_uid, else-is_uid}
 pub returns-then-not-contains : goal.returns-then-not-contains
 returns-then-not-contains c =
     let unfit : between 1 64 c.from-used.result ≡ false = search rules in
-    sent_unfit (numbers_in c.args.b.now) c.args.b.now c.args.p c.requires (rw (← c.from-used.ensures) unfit)
+    sent_unfit (numbers_in c.args.b.now) c.args.b.now c.args.p c.requires.1 (rw (← c.from-used.ensures) unfit)
 
 pub returns-then-not-begins_with : goal.returns-then-not-begins_with
 returns-then-not-begins_with c =
@@ -30,7 +30,7 @@ returns-then-not-begins_with c =
       | then-is_uid w ↦ and_passed _ c.is_uid.ensures w.if-is_uid.true (w.value-is ∙ rw (w.begins_with.ensures, w.root_in.ensures) (nots _))
       | else-is_uid w ↦ and_failed _ c.is_uid.ensures w.if-is_uid.false w.value-is
     ] in
-    sent_told (numbers_in b) b c.args.p c.requires _ (rw (← c.from-used.ensures) fit)
+    sent_told (numbers_in b) b c.args.p c.requires.1 _ (rw (← c.from-used.ensures) fit)
     (rw (← c.from-used.ensures) (and_passed _ unrooted c.if-not-begins_with.true c.zeros_in.ensures))
 
 pub returns-else-not-begins_with : goal.returns-else-not-begins_with
@@ -44,5 +44,5 @@ returns-else-not-begins_with c =
       | then-is_uid w ↦ and_passed _ c.is_uid.ensures w.if-is_uid.true (w.value-is ∙ rw (w.begins_with.ensures, w.root_in.ensures) (nots _))
       | else-is_uid w ↦ and_failed _ c.is_uid.ensures w.if-is_uid.false w.value-is
     ] in
-    sent_told (numbers_in b) b c.args.p c.requires _ (rw (← c.from-used.ensures) fit)
+    sent_told (numbers_in b) b c.args.p c.requires.1 _ (rw (← c.from-used.ensures) fit)
     (rw (← c.from-used.ensures) (and_failed (zeros (part b (text + c.from-used.result) (text + 64))) unrooted c.if-not-begins_with.false refl))
