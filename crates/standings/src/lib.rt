@@ -46,13 +46,25 @@ pub fn value(d: &[u8], found: Found) -> &[u8]
     &d[part.from..part.stop]
 }
 
-// A mandatory attribute, by the tests that its value is empty and that it is allowed.
-pub fn mandatory_severity(found: Found, empty: bool, allowed: bool) -> Severity
-    ensures { level result ≡ severity_by (kind_of found) empty allowed }
+// The number of what was found: nothing, a value, a sequence.
+fn kind_of(found: Found) -> u8
+    ensures { result ≡ kind_of found }
 {
     match found {
-        Found::Missing => Severity::Missing,
-        Found::Value(_) => {
+        Found::Missing => 0,
+        Found::Value(_) => 1,
+        Found::Sequence(_) => 2,
+    }
+}
+
+// A mandatory attribute, by that number and the tests that its value is empty and that it is allowed. Any other number is a value's.
+pub fn severity_by_kind(kind: u8, empty: bool, allowed: bool) -> Severity
+    ensures { level result ≡ severity_by kind empty allowed }
+{
+    match kind {
+        0 => Severity::Missing,
+        2 => Severity::Wrong,
+        _ => {
             if empty {
                 Severity::Empty
             } else if allowed {
@@ -61,8 +73,14 @@ pub fn mandatory_severity(found: Found, empty: bool, allowed: bool) -> Severity
                 Severity::Wrong
             }
         }
-        Found::Sequence(_) => Severity::Wrong,
     }
+}
+
+// The same, by what was found.
+pub fn mandatory_severity(found: Found, empty: bool, allowed: bool) -> Severity
+    ensures { level result ≡ severity_by (kind_of found) empty allowed }
+{
+    severity_by_kind(kind_of(found), empty, allowed)
 }
 
 // "Optional empty values .. count as absent"
