@@ -41,9 +41,9 @@ fn films_queued(effect: Effect, name: Name, status: u16, films: u32) -> Decision
     }
 }
 
-fn session_printed(k: Core, name: Name) -> Result<Decision, Failure>
-    requires { Ready k }
-    ensures { Follows k (action_plan k TheSession name) result }
+fn session_printed(k: &Core, name: Name) -> Result<Decision, Failure>
+    requires { Ready k.now }
+    ensures { Follows k.now (action_plan k.now TheSession name) result }
 {
     printing::session_print_broken(k)?;
     let status = warned(printing::any_empty(k), 0xB602);
@@ -51,9 +51,9 @@ fn session_printed(k: Core, name: Name) -> Result<Decision, Failure>
     Ok(films_queued(Effect::SessionPrinted, name, status, films))
 }
 
-fn film_printed(k: Core, name: Name, i: usize) -> Result<Decision, Failure>
-    requires { Ready k × (i < length (films_of k.shelf)) }
-    ensures { Follows k (action_plan k (TheFilm i) name) result }
+fn film_printed(k: &Core, name: Name, i: usize) -> Result<Decision, Failure>
+    requires { Ready k.now × (i < length (films_of k.now.shelf)) }
+    ensures { Follows k.now (action_plan k.now (TheFilm i) name) result }
 {
     printing::film_print_broken(k, i)?;
     let film = shelves::film_at(k.shelf, i);
@@ -61,15 +61,17 @@ fn film_printed(k: Core, name: Name, i: usize) -> Result<Decision, Failure>
     Ok(films_queued(Effect::FilmPrinted(i), name, status, 1))
 }
 
-// Checks 10 and 11, over the core unpacked. Nobody and boxes are refused before.
+// Checks 10 and 11, over the core unpacked, apart from the requests that need none. Nobody and boxes are refused before.
+#[inline(never)]
 fn printed(b: &Records, name: Name, whom: Instance) -> Result<Decision, Failure>
     requires { ReadyIn b.now × There (core_in b.now) whom }
     ensures { Follows (core_in b.now) (action_plan (core_in b.now) whom name) result }
 {
+    let core = Core::read_at(b, 0);
     match whom {
         Instance::Nobody => Ok(verdicts::quiet(shelves::no_name())),
-        Instance::TheSession => session_printed(Core::read_at(b, 0), name),
-        Instance::TheFilm(i) => film_printed(Core::read_at(b, 0), name, i),
+        Instance::TheSession => session_printed(&core, name),
+        Instance::TheFilm(i) => film_printed(&core, name, i),
         Instance::TheBox { film: _, place: _ } => Ok(verdicts::quiet(shelves::no_name())),
     }
 }

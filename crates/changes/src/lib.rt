@@ -164,24 +164,26 @@ fn put_box_set(b: &mut Records, film: usize, place: usize, anew: &ImageBox, fill
     anew.put(b, film_place(film) + FILM_BOXES + place * IMAGE_BOX);
 }
 
-// Printed and deleted.
+// Printed and deleted. What unpacks the core stands apart from the changes that need none.
 
+#[inline(never)]
 fn put_film_printed(b: &mut Records, place: usize)
     requires { Tidy (core_in b.old) × FilmThere (core_in b.old) place × (length (entries_of (core_in b.old).queue) < most_entries) }
     ensures { b.new ≡ write core_format (printed (core_in b.old) (film_at (core_in b.old) place ∷ [])) b.old 0 }
 {
-    let core = Core::read_at(b, 0);
-    let after = printing::printed_film(core, place);
-    after.put(b, 0);
+    let mut core = Core::read_at(b, 0);
+    printing::print_film(&mut core, place);
+    core.put(b, 0);
 }
 
+#[inline(never)]
 fn put_session_printed(b: &mut Records)
     requires { Tidy (core_in b.old) × AllUnder (core_in b.old) × (length (entries_of (core_in b.old).queue) + length (films_under 0 (core_in b.old).shelf) ≤ most_entries) }
     ensures { b.new ≡ write core_format (printed (core_in b.old) (films_under 0 (core_in b.old).shelf)) b.old 0 }
 {
-    let core = Core::read_at(b, 0);
-    let after = printing::printed_session(core);
-    after.put(b, 0);
+    let mut core = Core::read_at(b, 0);
+    printing::print_session(&mut core);
+    core.put(b, 0);
 }
 
 // The films behind one, each a place further down: their bytes.

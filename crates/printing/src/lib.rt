@@ -169,9 +169,9 @@ fn print_broken(colliding: bool, full: bool, no_room: Failure) -> Result<(), Fai
 }
 
 // Check 10, for a session. While there is one place, all films are of its session.
-pub fn session_print_broken(k: Core) -> Result<(), Failure>
-    requires { films_under 0 k.shelf ≡ films_of k.shelf }
-    ensures { number_by status_of result ≡ first_broken (session_print_rules k 0) }
+pub fn session_print_broken(k: &Core) -> Result<(), Failure>
+    requires { films_under 0 k.now.shelf ≡ films_of k.now.shelf }
+    ensures { number_by status_of result ≡ first_broken (session_print_rules k.now 0) }
 {
     let films = films_of(&k.shelf);
     if films.is_empty() {
@@ -183,9 +183,9 @@ pub fn session_print_broken(k: Core) -> Result<(), Failure>
 }
 
 // Check 10, for the film at a place.
-pub fn film_print_broken(k: Core, i: usize) -> Result<(), Failure>
-    requires { i < length (films_of k.shelf) }
-    ensures { number_by status_of result ≡ first_broken (film_print_rules k i) }
+pub fn film_print_broken(k: &Core, i: usize) -> Result<(), Failure>
+    requires { i < length (films_of k.now.shelf) }
+    ensures { number_by status_of result ≡ first_broken (film_print_rules k.now i) }
 {
     let film = shelves::film_at(k.shelf, i);
     let colliding = film_collides(&film);
@@ -193,18 +193,14 @@ pub fn film_print_broken(k: Core, i: usize) -> Result<(), Failure>
     print_broken(colliding, full, Failure::NoRoomForFilm)
 }
 
-// The queue with an entry more, its newest.
-fn queue_with(q: Queue, e: Entry) -> Queue
-    requires { (queued (entries_of q) ≡ q) × (length (entries_of q) < 16) }
-    ensures { result ≡ queued (entries_of q ++ (e ∷ [])) }
+// An entry more, the newest.
+fn put_newest(q: &mut Queue, e: &Entry)
+    requires { (queued (entries_of q.old) ≡ q.old) × (length (entries_of q.old) < 16) }
+    ensures { q.new ≡ queued (entries_of q.old ++ (e.now ∷ [])) }
 {
-    let mut entries = q.entries;
     let count = q.count as usize;
-    entries[count] = e;
-    Queue {
-        count: q.count + 1,
-        entries,
-    }
+    q.entries[count] = *e;
+    q.count += 1;
 }
 
 // "after 65,535 comes 0"
@@ -217,45 +213,41 @@ fn ticket_used(n: Numbers) -> Numbers
 }
 
 // One film printed: its entry queued, and the ticket advanced.
-fn printed_one(k: Core, f: &Film) -> Core
-    requires { (queued (entries_of k.queue) ≡ k.queue) × (length (entries_of k.queue) < 16) }
-    ensures { result ≡ printed k (f.now ∷ []) }
+fn print_one(k: &mut Core, f: &Film)
+    requires { (queued (entries_of k.old.queue) ≡ k.old.queue) × (length (entries_of k.old.queue) < 16) }
+    ensures { k.new ≡ printed k.old (f.now ∷ []) }
 {
-    let entry = entry_of(&k, k.numbers.ticket, f);
-    Core {
-        numbers: ticket_used(k.numbers),
-        queue: queue_with(k.queue, entry),
-        ..k
-    }
+    let entry = entry_of(k, k.numbers.ticket, f);
+    k.numbers = ticket_used(k.numbers);
+    put_newest(&mut k.queue, &entry);
 }
 
 // "A session queues its films in creation order."
-fn printed_films(k: Core, films: &[Film]) -> Core
-    requires { (queued (entries_of k.queue) ≡ k.queue) × (length (entries_of k.queue) + length films.now ≤ 16) }
-    ensures { result ≡ printed k films.now }
+fn print_films(k: &mut Core, films: &[Film])
+    requires { (queued (entries_of k.old.queue) ≡ k.old.queue) × (length (entries_of k.old.queue) + length films.now ≤ 16) }
+    ensures { k.new ≡ printed k.old films.now }
 {
-    let mut after = k;
     for film in films {
-        after = printed_one(after, film);
+        print_one(k, film);
     }
-    after
 }
 
 // A session printed, where the queue has room for its films.
-pub fn printed_session(k: Core) -> Core
-    requires { (films_under 0 k.shelf ≡ films_of k.shelf) × (queued (entries_of k.queue) ≡ k.queue) × (length (entries_of k.queue) + length (films_under 0 k.shelf) ≤ 16) }
-    ensures { result ≡ printed k (films_under 0 k.shelf) }
+pub fn print_session(k: &mut Core)
+    requires { (films_under 0 k.old.shelf ≡ films_of k.old.shelf) × (queued (entries_of k.old.queue) ≡ k.old.queue) × (length (entries_of k.old.queue) + length (films_under 0 k.old.shelf) ≤ 16) }
+    ensures { k.new ≡ printed k.old (films_under 0 k.old.shelf) }
 {
-    printed_films(k, films_of(&k.shelf))
+    let shelf = k.shelf;
+    print_films(k, films_of(&shelf));
 }
 
 // A film printed, where the queue has room for it.
-pub fn printed_film(k: Core, i: usize) -> Core
-    requires { (i < length (films_of k.shelf)) × (queued (entries_of k.queue) ≡ k.queue) × (length (entries_of k.queue) < 16) }
-    ensures { result ≡ printed k (film_at k i ∷ []) }
+pub fn print_film(k: &mut Core, i: usize)
+    requires { (i < length (films_of k.old.shelf)) × (queued (entries_of k.old.queue) ≡ k.old.queue) × (length (entries_of k.old.queue) < 16) }
+    ensures { k.new ≡ printed k.old (film_at k.old i ∷ []) }
 {
     let film = shelves::film_at(k.shelf, i);
-    printed_one(k, &film)
+    print_one(k, &film);
 }
 
 fn any_none_filled(films: &[Film]) -> bool
@@ -265,9 +257,9 @@ fn any_none_filled(films: &[Film]) -> bool
 }
 
 // Check 11, for a session: "a film has no filled box".
-pub fn any_empty(k: Core) -> bool
-    requires { films_under 0 k.shelf ≡ films_of k.shelf }
-    ensures { result ≡ any none_filled (films_under 0 k.shelf) }
+pub fn any_empty(k: &Core) -> bool
+    requires { films_under 0 k.now.shelf ≡ films_of k.now.shelf }
+    ensures { result ≡ any none_filled (films_under 0 k.now.shelf) }
 {
     any_none_filled(films_of(&k.shelf))
 }

@@ -16,7 +16,7 @@ unfolding action_plan
 returns-in_err-film_print_broken c =
     let a = c.args in
     let p = err_from_is_err_and c.from_residual.result c.from_residual.ensures.1 in
-    rw (p.1, p.2) (own_fails a.k (action_plan a.k (TheFilm a.i) a.name) refl _ c.in_err-film_print_broken.ensures)
+    rw (p.1, p.2) (own_fails a.k.now (action_plan a.k.now (TheFilm a.i) a.name) refl _ c.in_err-film_print_broken.ensures)
 
 pub returns : goal.returns
 unfolding action_plan affected EffectFits
@@ -24,8 +24,8 @@ returns c =
     let a = c.args in
     let warned = c.warned-status in
     let kept = c.in_ok-film_print_broken.ensures in
-    own_stands a.k (action_plan a.k (TheFilm a.i) a.name) refl c.films_queued.result kept (
-      queued_so a.k (FilmPrinted a.i) a.name 0xB603 (film_at a.k a.i ∷ []) warned.result 1 c.films_queued.result c.films_queued.ensures refl
-          (warned.ensures ∙ ap (λ empty. pick empty 0xB603 0) (c.none_filled.ensures ∙ ap none_filled c.film_at-film.ensures ∙ one_empty (film_at a.k a.i))) refl,
-      effect_fits a.k (FilmPrinted a.i) a.name warned.result 1 c.films_queued.result c.films_queued.ensures (c.requires.1, film_room a.k a.i _ kept refl),
+    own_stands a.k.now (action_plan a.k.now (TheFilm a.i) a.name) refl c.films_queued.result kept (
+      queued_so a.k.now (FilmPrinted a.i) a.name 0xB603 (film_at a.k.now a.i ∷ []) warned.result 1 c.films_queued.result c.films_queued.ensures refl
+          (warned.ensures ∙ ap (λ empty. pick empty 0xB603 0) (c.none_filled.ensures ∙ ap none_filled c.film_at-film.ensures ∙ one_empty (film_at a.k.now a.i))) refl,
+      effect_fits a.k.now (FilmPrinted a.i) a.name warned.result 1 c.films_queued.result c.films_queued.ensures (c.requires.1, film_room a.k.now a.i _ kept refl),
     )

@@ -12,11 +12,11 @@ use Rattle.verdicts.specs.Decided.{Follows}
 use Rattle.acting.proofs.printed.Goals as goal
 
 pub session_printed-requires : goal.session_printed-requires
-session_printed-requires c = subst Ready (sym c.read_at.ensures) c.requires.0.1
+session_printed-requires c = subst Ready (sym c.read_at-core.ensures) c.requires.0.1
 
 pub film_printed-requires : goal.film_printed-requires
 film_printed-requires c =
-    let k = sym c.read_at-in-TheFilm.ensures in
+    let k = sym c.read_at-core.ensures in
     let i = c.in-TheFilm.i in
     (subst Ready k c.requires.0.1, subst (λ (k : Core). There k (TheFilm i)) k (subst (There (core_in c.args.b.now)) c.in-TheFilm.is c.requires.1))
 
@@ -30,12 +30,12 @@ returns-in-Nobody c =
 pub returns-in-TheSession : goal.returns-in-TheSession
 returns-in-TheSession c =
     rw c.in-TheSession.is
-    (subst (λ (k : Core). Follows k (action_plan k TheSession c.args.name) c.session_printed.result) c.read_at.ensures c.session_printed.ensures)
+    (subst (λ (k : Core). Follows k (action_plan k TheSession c.args.name) c.session_printed.result) c.read_at-core.ensures c.session_printed.ensures)
 
 pub returns-in-TheFilm : goal.returns-in-TheFilm
 returns-in-TheFilm c =
     rw c.in-TheFilm.is
-    (subst (λ (k : Core). Follows k (action_plan k (TheFilm c.in-TheFilm.i) c.args.name) c.film_printed.result) c.read_at-in-TheFilm.ensures c.film_printed.ensures)
+    (subst (λ (k : Core). Follows k (action_plan k (TheFilm c.in-TheFilm.i) c.args.name) c.film_printed.result) c.read_at-core.ensures c.film_printed.ensures)
 
 pub returns-in-TheBox : goal.returns-in-TheBox
 unfolding action_plan

@@ -11,8 +11,8 @@ use Rattle.rules.specs.Effects.{film_at, printed}
 use Rattle.changes.specs.Changes.{FilmThere}
 use Rattle.changes.proofs.put_film_printed.Goals as goal
 
-pub printed_film-after-requires : goal.printed_film-after-requires
-printed_film-after-requires c =
+pub print_film-requires : goal.print_film-requires
+print_film-requires c =
     let a = c.args in
     subst (λ (k : Core). FilmThere k a.place × (queued (entries_of k.queue) ≡ k.queue) × (length (entries_of k.queue) < most_entries)) (sym c.read_at-core.ensures) (c.requires.1, c.requires.0.1, c.requires.2)
 
@@ -20,4 +20,4 @@ pub returns : goal.returns
 returns c =
     let a = c.args in
     c.put.ensures
-    ∙ ap (λ (k : Core). write core_format k a.b.now 0) (c.printed_film-after.ensures ∙ ap (λ (k : Core). printed k (film_at k a.place ∷ [])) c.read_at-core.ensures)
+    ∙ ap (λ (k : Core). write core_format k a.b.now 0) (c.print_film.ensures ∙ ap (λ (k : Core). printed k (film_at k a.place ∷ [])) c.read_at-core.ensures)
