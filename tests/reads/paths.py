@@ -7,15 +7,19 @@ JOINING = {";", ",", ":", ".", "..", "..=", "=", "==", "!=", "<", "<=", ">", ">=
            "+=", "-=", "*=", "/=", "%=", "::"}
 WORDS = {"let", "mut", "as", "true", "false", "self"}
 REFUSED = {"break", "continue", "unsafe", "fn", "move", "dyn"}
-# Methods of the kit: lengths, ends and copies of bytes, numbers, what an Option or a Result holds, and elements to be gone through, of
-# which none is looked at yet.
-OF_THE_KIT = {"len", "is_empty", "first", "last", "first_chunk", "first_chunk_mut", "copy_from_slice", "copy_within", "fill",
-              "min", "max", "div_ceil", "saturating_sub", "checked_sub", "wrapping_add", "contains", "is_ascii_digit",
-              "is_some", "is_none", "unwrap_or", "iter", "iter_mut", "rev", "zip", "enumerate"}
+# Methods of the kit: lengths, ends and copies of bytes, numbers, and what an Option or a Result holds.
+OF_THE_KIT = {"len", "is_empty", "first", "first_chunk", "first_chunk_mut", "copy_from_slice", "div_ceil", "saturating_sub",
+              "checked_sub", "wrapping_add", "is_ascii_digit", "is_some", "is_none", "unwrap_or"}
+# Methods of the kit that go through elements in some places and not in others: known by where they stand.
+BY_PLACE = {"min", "max", "contains", "last"}
+# Methods of the kit that write many elements: known in functions that are named.
+WRITING = {"fill", "copy_within"}
 FUNCTIONS_OF_THE_KIT = {"std::num::wrapping_add_u16"}
 # Methods that call a function that is handed to them: once for an element, which is a loop, or once at most.
 LOOPING = {"all", "any", "find", "position", "rposition"}
 ONCE = {"map_or"}
+# Methods of the kit that hand elements on, of which none is looked at yet: a loop takes them.
+HANDING_ON = {"iter", "iter_mut", "rev", "zip", "enumerate"}
 # Types of the language, whose functions are the kit's, but for conversions that a crate has for its own types.
 NUMBERS = {"u8", "u16", "u32", "u64", "usize"}
 
@@ -46,14 +50,48 @@ def most(a, b):
     return tuple(map(max, a, b))
 
 
+def is_known_place(before, name, group):
+    """Whether a method of BY_PLACE goes through no elements. `min` and `max` of two numbers have an argument, those of an iterator
+    none. `contains` tests the ends of a range, and goes through a slice. `last` looks at one element of a slice, and goes through
+    all of an iterator, which stands behind a call or in round brackets, as no name is bound to one."""
+    if name == "contains":
+        return ends_in_range(before)
+    return is_name(before[-1]) or is_group(before[-1], "[") if name == "last" else len(split(group.inside, ",")) == 1
+
+
+def ends_in_range(tokens):
+    """Whether the last of these tokens is a range in round brackets, which are no call's."""
+    *front, last = tokens
+    return is_group(last, "(") and bool({"..", "..="} & set(last.inside)) and (not front or front[-1] in JOINING)
+
+
+def is_of_another(pattern, variant):
+    """Whether a pattern is that of another variant."""
+    return len(pattern) in (3, 4) and pattern[1] == "::" and is_name(pattern[2]) and pattern[2] != variant
+
+
+def takes_all(pattern, variant):
+    """Whether no value of a variant passes a pattern by: it is a name, or the variant with nothing but names in it."""
+    if len(pattern) == 1:
+        return is_bound(pattern[0])
+    within = pattern[3].inside if len(pattern) == 4 and not isinstance(pattern[3], str) else pattern[3:]
+    return pattern[1:3] == ["::", variant] and all(token in (",", ":", "..") or is_bound(token) for token in within)
+
+
+def is_bound(token):
+    """Whether a token of a pattern is a name for whatever is there."""
+    return is_name(token) and not token[0].isupper() and token not in ("true", "false")
+
+
 class Counter:
     """Counts over the functions of crates. `unit(caller, callee)` is what a call counts for itself, and then the function is not
-    looked into; None says to look into it. `loops` are the functions whose loops are known to be short. `assumed` says of
-    variables which variants they are: {function: {variable: variant}}."""
+    looked into; None says to look into it. `loops` are the functions whose loops are known to be short, `writers` those that are
+    known to write many elements. `assumed` says of variables which variants they are: {function: {variable: variant}}."""
 
-    def __init__(self, crates, nothing, unit, loops, assumed=None):
-        self.crates, self.nothing, self.unit, self.loops, self.assumed = crates, nothing, unit, loops, assumed or {}
-        self.counted, self.within, self.looping, self.recurring = {}, [], set(), set()
+    def __init__(self, crates, nothing, unit, loops, writers, assumed=None):
+        self.crates, self.nothing, self.unit, self.assumed = crates, nothing, unit, assumed or {}
+        self.loops, self.writers = loops, writers
+        self.counted, self.within, self.looping, self.writing, self.recurring = {}, [], set(), set(), set()
 
     def count(self, path, given=()):
         """The greatest count of a function, whose parameters may be known to be variants."""
@@ -133,7 +171,7 @@ class Counter:
     def method(self, function, name):
         """The functions that a method may be; None for the kit's."""
         found = self.of_types(lambda path: path.endswith(f"::{name}"))
-        if not found and name in OF_THE_KIT:
+        if not found and name in OF_THE_KIT | BY_PLACE | WRITING | HANDING_ON:
             return None
         if not found or len(found) > 1 and not all(each.of_trait for each in found):
             raise Unread(f"{function.path}: the method is not known: {name}")
@@ -185,15 +223,15 @@ class Counter:
             self.turn(function.path, inside)
         return before.then(Paths(self.nothing).either(inside))
 
-    def block(self, function, tokens, known):
-        """Statements, or the parts of an expression, one after another."""
+    def block(self, function, tokens, known, taken=False):
+        """Statements, or the parts of an expression, one after another. Elements that are handed on at the end may be taken there."""
         paths, i = Paths(self.nothing), 0
         while i < len(tokens):
-            step, i = self.step(function, tokens, i, known)
+            step, i = self.step(function, tokens, i, known, taken)
             paths = paths.then(step)
         return paths
 
-    def step(self, function, tokens, i, known):
+    def step(self, function, tokens, i, known, taken):
         """What begins at a token, and the place behind it."""
         token = tokens[i]
         if not isinstance(token, str):
@@ -215,17 +253,44 @@ class Counter:
         if token == "let":
             return self.binding(function, tokens, i, known)
         if token == "." and is_name(tokens[i + 1]) and is_group((tokens[i + 2:i + 3] or [""])[0], "("):
-            return self.method_call(function, tokens[i + 1], tokens[i + 2], known), i + 3
+            return self.method_call(function, tokens, i, known, taken), i + 3
         if token in REFUSED or (not is_name(token) and not token[0].isdigit() and token[-1] not in "\"'" and token not in JOINING):
             raise Unread(f"{function.path}: '{token}' is not known")
         if is_name(token) and token not in WORDS:
             return self.path(function, tokens, i, known)
         return Paths(self.nothing), i + 1
 
-    def method_call(self, function, name, group, known):
+    def method_call(self, function, tokens, i, known, taken):
+        """The call of a method behind the dot at a place."""
+        name, group = tokens[i + 1:i + 3]
         if name in LOOPING | ONCE:
             return self.called_by_kit(function, name, group, known)
-        return self.call(function, self.method(function, name), group, known, True)
+        callees = self.method(function, name)
+        if callees is None:
+            self.try_place(function, tokens, i, taken)
+        if callees is None and name == "zip":
+            return self.block(function, group.inside, known, True)
+        return self.call(function, callees, group, known, True)
+
+    def try_place(self, function, tokens, i, taken):
+        """A method of the kit that may go through elements is known where it stands."""
+        name, group = tokens[i + 1:i + 3]
+        if name in HANDING_ON:
+            self.try_taker(function, name, tokens[i + 3:], taken)
+        if name in WRITING:
+            self.writing.add(function.path)
+        known = function.path in self.writers if name in WRITING else name not in BY_PLACE or is_known_place(tokens[:i], name, group)
+        if not known:
+            raise Unread(f"{function.path}: the method is not known: {name}, where it stands")
+
+    @staticmethod
+    def try_taker(function, name, following, taken):
+        """Elements that are handed on are taken by a method that loops or hands them on, or at their end by a loop or by zip; nothing
+        else may go through them."""
+        if following[:1] == ["."] and following[1] not in HANDING_ON | LOOPING:
+            raise Unread(f"{function.path}: the method is not known: {following[1]} behind {name}")
+        if following[:1] != ["."] and (following or not taken):
+            raise Unread(f"{function.path}: no loop takes the elements of {name}")
 
     def path(self, function, tokens, i, known):
         """Names joined by colons, and a call where brackets follow."""
@@ -267,16 +332,12 @@ class Counter:
         raise Unread(f"{function.path}: no braces behind '{tokens[i - 1]}'")
 
     def match(self, function, tokens, i, known):
-        """The conditions of all arms, and the greatest of their bodies; or the one arm of a variable that is known."""
+        """The conditions of all arms, and the greatest of their bodies; of a variable that is known, the arms that it may come to."""
         brace = self.until_brace(function, tokens, i + 1)
         value = tokens[i + 1:brace]
         arms = self.arms(function, tokens[brace].inside, known)
         if len(value) == 1 and value[0] in known:
-            named = [arm for arm in arms if any(one[2:3] == [known[value[0]]] for one in split(arm[0], "|"))]
-            wanted = named or [arm for arm in arms if arm[0] == ["_"]]
-            if len(wanted) != 1:
-                raise Unread(f"{function.path}: not one arm for {known[value[0]]}")
-            arms = wanted
+            arms = self.reached(function, arms, known[value[0]])
         result = None
         for _, _, body in arms:
             paths = self.block(function, body, known)
@@ -286,12 +347,25 @@ class Counter:
             tested = tested.then(self.block(function, condition, known))
         return tested.then(result), brace + 1
 
+    def reached(self, function, arms, variant):
+        """The arms that a variant may come to: all that fit, up to the first that it can't pass by. It may pass by an arm that has a
+        condition, or fits some of its values."""
+        found = []
+        for arm in arms:
+            patterns = split(arm[0], "|")
+            if not all(is_of_another(one, variant) for one in patterns):
+                found.append(arm)
+                if not arm[1] and any(takes_all(one, variant) for one in patterns):
+                    return found
+        raise Unread(f"{function.path}: no arm for all of {variant}")
+
     def arms(self, function, tokens, known):
         """The arms of a match: pattern, condition and body."""
         found, i = [], 0
         while i < len(tokens):
             arrow = tokens.index("=>", i)
-            pattern, condition = (split(tokens[i:arrow], "if") + [[]])[:2]
+            asked = next((k for k in range(i, arrow) if tokens[k] == "if"), arrow)
+            pattern, condition = tokens[i:asked], tokens[asked + 1:arrow]
             if known.keys() & set(flat(pattern)):
                 raise Unread(f"{function.path}: a pattern of a name that was taken for one variant")
             if is_group(tokens[arrow + 1], "{"):
@@ -334,7 +408,7 @@ class Counter:
             begun = tokens.index("in", i)
             if known.keys() & set(flat(tokens[i:begun])):
                 raise Unread(f"{function.path}: a pattern of a name that was taken for one variant")
-            before = self.block(function, tokens[begun + 1:brace], known)
+            before = self.block(function, tokens[begun + 1:brace], known, True)
             begun = brace
         turn = self.block(function, tokens[begun:brace + 1], known)
         self.turn(function.path, turn)
