@@ -11,9 +11,9 @@ REFUSED = {"break", "continue", "unsafe", "fn", "move", "dyn"}
 OF_THE_KIT = {"len", "is_empty", "first", "first_chunk", "first_chunk_mut", "copy_from_slice", "div_ceil", "saturating_sub",
               "checked_sub", "wrapping_add", "is_ascii_digit", "is_some", "is_none", "unwrap_or"}
 # Methods of the kit that go through elements in some places and not in others: known by where they stand.
-BY_PLACE = {"min", "max", "contains", "last"}
-# Methods of the kit that write many elements: known in functions that are named.
-WRITING = {"fill", "copy_within"}
+BY_PLACE = {"contains", "last"}
+# Methods of the kit that write many elements, or compare two values, which may be slices: known in functions that are named.
+HANDLING = {"fill", "copy_within", "min", "max"}
 FUNCTIONS_OF_THE_KIT = {"std::num::wrapping_add_u16"}
 # Methods that call a function that is handed to them: once for an element, which is a loop, or once at most.
 LOOPING = {"all", "any", "find", "position", "rposition"}
@@ -50,13 +50,13 @@ def most(a, b):
     return tuple(map(max, a, b))
 
 
-def is_known_place(before, name, group):
-    """Whether a method of BY_PLACE goes through no elements. `min` and `max` of two numbers have an argument, those of an iterator
-    none. `contains` tests the ends of a range, and goes through a slice. `last` looks at one element of a slice, and goes through
-    all of an iterator, which stands behind a call or in round brackets, as no name is bound to one."""
+def is_known_place(before, name):
+    """Whether a method of BY_PLACE goes through no elements. `contains` tests the ends of a range, and goes through a slice. `last`
+    looks at one element of a slice, and goes through all of an iterator, which stands behind a call or in round brackets, as no name
+    is bound to one."""
     if name == "contains":
         return ends_in_range(before)
-    return is_name(before[-1]) or is_group(before[-1], "[") if name == "last" else len(split(group.inside, ",")) == 1
+    return is_name(before[-1]) or is_group(before[-1], "[")
 
 
 def ends_in_range(tokens):
@@ -85,13 +85,13 @@ def is_bound(token):
 
 class Counter:
     """Counts over the functions of crates. `unit(caller, callee)` is what a call counts for itself, and then the function is not
-    looked into; None says to look into it. `loops` are the functions whose loops are known to be short, `writers` those that are
-    known to write many elements. `assumed` says of variables which variants they are: {function: {variable: variant}}."""
+    looked into; None says to look into it. `loops` are the functions whose loops are known to be short, `handlers` those that
+    are known to write or compare elements. `assumed` says of variables which variants they are: {function: {variable: variant}}."""
 
-    def __init__(self, crates, nothing, unit, loops, writers, assumed=None):
+    def __init__(self, crates, nothing, unit, loops, handlers, assumed=None):
         self.crates, self.nothing, self.unit, self.assumed = crates, nothing, unit, assumed or {}
-        self.loops, self.writers = loops, writers
-        self.counted, self.within, self.looping, self.writing, self.recurring = {}, [], set(), set(), set()
+        self.loops, self.handlers = loops, handlers
+        self.counted, self.within, self.looping, self.handling, self.recurring = {}, [], set(), set(), set()
 
     def count(self, path, given=()):
         """The greatest count of a function, whose parameters may be known to be variants."""
@@ -171,7 +171,7 @@ class Counter:
     def method(self, function, name):
         """The functions that a method may be; None for the kit's."""
         found = self.of_types(lambda path: path.endswith(f"::{name}"))
-        if not found and name in OF_THE_KIT | BY_PLACE | WRITING | HANDING_ON:
+        if not found and name in OF_THE_KIT | BY_PLACE | HANDLING | HANDING_ON:
             return None
         if not found or len(found) > 1 and not all(each.of_trait for each in found):
             raise Unread(f"{function.path}: the method is not known: {name}")
@@ -274,12 +274,14 @@ class Counter:
 
     def try_place(self, function, tokens, i, taken):
         """A method of the kit that may go through elements is known where it stands."""
-        name, group = tokens[i + 1:i + 3]
+        name = tokens[i + 1]
         if name in HANDING_ON:
             self.try_taker(function, name, tokens[i + 3:], taken)
-        if name in WRITING:
-            self.writing.add(function.path)
-        known = function.path in self.writers if name in WRITING else name not in BY_PLACE or is_known_place(tokens[:i], name, group)
+        if name in HANDLING:
+            self.handling.add(function.path)
+            known = function.path in self.handlers
+        else:
+            known = name not in BY_PLACE or is_known_place(tokens[:i], name)
         if not known:
             raise Unread(f"{function.path}: the method is not known: {name}, where it stands")
 

@@ -61,7 +61,8 @@ fn film_printed(k: &Core, name: Name, i: usize) -> Result<Decision, Failure>
     Ok(films_queued(Effect::FilmPrinted(i), name, status, 1))
 }
 
-// Checks 10 and 11, over the core unpacked, apart from the requests that need none. Nobody and boxes are refused before.
+// Checks 10 and 11, over the core unpacked: not compiled into its caller, so that no other request has a core on its stack.
+// Nobody and boxes are refused before.
 #[inline(never)]
 fn printed(b: &Records, name: Name, whom: Instance) -> Result<Decision, Failure>
     requires { ReadyIn b.now × There (core_in b.now) whom }

@@ -164,7 +164,7 @@ fn put_box_set(b: &mut Records, film: usize, place: usize, anew: &ImageBox, fill
     anew.put(b, film_place(film) + FILM_BOXES + place * IMAGE_BOX);
 }
 
-// Printed and deleted. What unpacks the core stands apart from the changes that need none.
+// Printed and deleted. What unpacks the core is not compiled into its caller, for other changes need none.
 
 #[inline(never)]
 fn put_film_printed(b: &mut Records, place: usize)
